@@ -1,0 +1,11 @@
+pub mod Ring
+pub mod Expr
+pub mod Solve
+pub mod Identities
+pub mod Lists
+pub mod Roots
+pub mod Modulo
+pub mod Power
+pub mod Prime
+pub mod Proth
+pub mod Field

@@ -1,0 +1,46 @@
+-- What a test that a branch asked for tells of the definition that it equals.
+use mathlib.Core.Path.{_≡_, refl, sym, ap, _∙_}
+use mathlib.Core.Bool.{Bool, true, false, not, _||_}
+use mathlib.Core.List.{List, [], _∷_}
+use Prim.Native.Nat.{ℕ, _<_}
+use lib.ListN.{length, getD}
+use lib.Dec.{eqb}
+use borrow.Author.Tests.{not-false}
+use Rattle.algebra.specs.Prime.{p}
+use Rattle.refusals.specs.Refusal.{lowest, sizes, contents, canonical}
+use Rattle.refusals.proofs.Laws.{clear, length-is, canonical-below}
+use Rattle.table.specs.Rows.{Row, Rows, Masks}
+
+-- of a test r of the definition b, denied by `!`
+pub denied : {r b : Bool} → r ≡ b → not r ≡ true → not b ≡ true
+denied e t = ap not (sym e) ∙ t
+
+pub kept : {r b : Bool} → r ≡ b → not r ≡ false → not b ≡ false
+kept e t = ap not (sym e) ∙ t
+
+or-left-false : (a b : Bool) → (a || b) ≡ false → a ≡ false
+or-left-false true b e = e
+or-left-false false b e = refl
+
+-- masks and rows that are not turned back are as the core asks
+module _ (masks lv nv : List ℕ) (s : lowest (sizes masks lv nv) ≡ 0) where
+  pub masks-length : length masks ≡ 25
+  masks-length = length-is _ _ (clear (sizes masks lv nv) tt s .1 .1 .0)
+
+  module _ (k : lowest (contents masks lv nv) ≡ 0) where
+    canonical-is : (l : List ℕ) → not (canonical l) ≡ false → (i : ℕ) → getD l i 0 < p
+    canonical-is l e = canonical-below l (not-false (canonical l) e)
+
+    pub rows-are : Rows lv nv
+    rows-are =
+        let a = clear (sizes masks lv nv) tt s in
+        let b = clear (contents masks lv nv) tt k in
+        record {
+          local = record { size = length-is _ _ (a .0); below = canonical-is lv (b .1 .0) };
+          next = record { size = length-is _ _ (a .1 .0); below = canonical-is nv (b .1 .1 .0) };
+        }
+
+    pub masks-are : Masks masks
+    masks-are =
+        let b = clear (contents masks lv nv) tt k in
+        record { size = masks-length; below = canonical-is masks (or-left-false _ _ (b .0)) }

@@ -1,0 +1,26 @@
+-- `cpu::stages::eval_flow` meets its contract.
+use mathlib.Core.Path.{sym}
+use Prim.Native.Nat.{_≤_}
+use native.Mathlib.Omega.{arith}
+use lib.ListN.{length}
+use denote.Ref.{now}
+use borrow.Author.Needs.{needs}
+use Rattle.cpu.specs.Stages.{flow}
+use Rattle.parts.proofs.Written.{putOf, putNext}
+use Rattle.cpu_flow.proofs.Groups.{groups}
+use Rattle.cpu.proofs.Lengths.{lengths}
+use Rattle.cpu.proofs.Joined.{joins}
+use Rattle.cpu.proofs.stages.eval_flow.Statement.{statement}
+use Rattle.cpu.proofs.stages.eval_flow.Tie as tie
+
+room : (c : tie.Start) → 144 ≤ length (now (c .args .out))
+room c = omega (arith, c .pre .1 .1)
+
+returns : tie.Need-returns
+unfolding flow
+returns c = sym (search (putNext, putOf, joins, groups, lengths, room) depth 30 fits 100000)
+
+pub eval-flow-spec : {M : Type 1} → statement M
+eval-flow-spec =
+    tie.close
+    (tie.spec (λ c κs. search needs) (λ c. search needs) (λ c κs. search needs) (λ c κs. search needs) (λ c. search needs) (λ c κs. search needs) (λ c κs. search needs) (λ c. search needs) returns)

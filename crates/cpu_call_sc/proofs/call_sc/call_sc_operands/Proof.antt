@@ -1,0 +1,23 @@
+-- `cpu_call_sc::call_sc::call_sc_operands` meets its contract.
+use mathlib.Core.Path.{sym}
+use denote.Ref.{now}
+use Rattle.table.specs.Rows.{Row}
+use Rattle.table.specs.Entry.{values}
+use Rattle.table.specs.CallSc.{call-sc-operands}
+use Rattle.table.proofs.Called.{exprs}
+use Rattle.table.proofs.Rows.{places}
+use Rattle.cpu_call_sc.proofs.call_sc.call_sc_operands.Statement.{statement}
+use Rattle.cpu_call_sc.proofs.call_sc.call_sc_operands.Tie as tie
+
+local-row : (c : tie.Start) → Row (now (c .args .lv))
+local-row c = c .pre .0 .local
+
+next-row : (c : tie.Start) → Row (now (c .args .nv))
+next-row c = c .pre .0 .next
+
+returns : tie.Need-returns
+unfolding values call-sc-operands
+returns c = sym (search exprs depth 100 fits 100000)
+
+pub call-sc-operands-spec : {M : Type 1} → statement M
+call-sc-operands-spec = tie.close (search (tie.spec, returns, places, local-row, next-row))

@@ -1,0 +1,2 @@
+// The constraints of call_sc.rs (N).
+pub mod call_sc;

@@ -1,0 +1,2 @@
+// The constraints of tape.rs (M).
+pub mod tape;

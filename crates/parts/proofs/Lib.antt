@@ -1,0 +1,5 @@
+pub mod Laws
+pub mod Written
+pub mod Called
+pub mod Pairs
+pub mod Registers

@@ -1,0 +1,107 @@
+-- Laws of the refusal table: conditions one after the other, and what is known where none holds.
+use mathlib.Core.Path.{_≡_, refl, sym, ap, _∙_}
+use mathlib.Core.Bool.{Bool, true, false, cond, not, _&&_, _||_}
+use mathlib.Core.List.{List, [], _∷_, _++_}
+use Prim.Native.Nat.{ℕ, zero, suc, _+_, _-_, _<_, _≤_}
+use native.Mathlib.Numerals.{add-one}
+use native.Mathlib.Nat.{le-refl}
+use native.Mathlib.Omega.{arith}
+use lib.ListN.{length, getD, take, drop, drop-of-length-le, length-drop}
+use lib.Seq.{drop-cons, take-all}
+use lib.Dec.{T, eqb, ltb, ltb→lt, lit<}
+use borrow.Author.Tests.{eqb-true, not-false, ltb-true}
+use Rattle.algebra.specs.Prime.{p}
+use Rattle.refusals.specs.Refusal.{Condition, lowest, canonical, member, distinct}
+
+-- none of the conditions holds
+abbrev pub Clear : List Condition → Type 0
+Clear [] = Unit {0}
+Clear (c ∷ cs) = (c .holds ≡ false) × Clear cs
+
+-- every number is positive: computed, and so shown by `tt`
+abbrev pub positive : List Condition → Bool
+positive [] = true
+positive (c ∷ cs) = ltb 0 (c .number) && positive cs
+
+and-T : (a b : Bool) → T (a && b) → T a × T b
+and-T true b t = (tt, t)
+and-T false b t = absurd t
+
+-- a call that is not turned back meets no condition
+clear-first : (b : Bool) (n m : ℕ) → T (ltb 0 n) → cond b n m ≡ 0 → (b ≡ false) × (m ≡ 0)
+clear-first true n m t e = absurd (omega (arith, ltb→lt 0 n t))
+clear-first false n m t e = (refl, e)
+
+pub clear : (cs : List Condition) → T (positive cs) → lowest cs ≡ 0 → Clear cs
+clear [] t e = tt
+clear (c ∷ cs) t e =
+    let s = and-T (ltb 0 (c .number)) (positive cs) t in
+    let k = clear-first (c .holds) (c .number) (lowest cs) (s .0) e in
+    (k .0, clear cs (s .1) (k .1))
+
+-- conditions behind others: they count where none of those holds
+pub behind : (cs ds : List Condition) → Clear cs → lowest (cs ++ ds) ≡ lowest ds
+behind [] ds k = refl
+behind (c ∷ cs) ds k = ap (λ (b : Bool). cond b (c .number) (lowest (cs ++ ds))) (k .0) ∙ behind cs ds (k .1)
+
+-- conditions before others: they decide where one of them holds
+before-first : (b : Bool) (n k m r : ℕ) → n ≡ cond b k m → (n ≡ m → n ≡ r) → n ≡ cond b k r
+before-first true n k m r e f = e
+before-first false n k m r e f = f e
+
+pub before : (cs ds : List Condition) (n : ℕ) → n ≡ lowest cs → (n ≡ 0 → ⊥) → n ≡ lowest (cs ++ ds)
+before [] ds n e h = absurd (h e)
+before (c ∷ cs) ds n e h = before-first (c .holds) n (c .number) (lowest cs) (lowest (cs ++ ds)) e (λ k. before cs ds n k h)
+
+-- what a length is, where its condition does not hold
+pub length-is : (n k : ℕ) → not (eqb n k) ≡ false → n ≡ k
+length-is n k e = eqb-true n k (not-false (eqb n k) e)
+
+-- canonical numbers are below p, at every place
+both-true : (a b : Bool) → (a && b) ≡ true → (a ≡ true) × (b ≡ true)
+both-true true b e = (refl, e)
+both-true false b e = absurd (let z : _≡_ {A = ℕ} 0 1 = cc in omega arith)
+
+pub canonical-below : (l : List ℕ) → canonical l ≡ true → (i : ℕ) → getD l i 0 < p
+unfolding canonical
+canonical-below [] e i = lit< tt
+canonical-below (x ∷ xs) e zero = ltb-true _ _ (both-true (ltb x p) (canonical xs) e .0)
+canonical-below (x ∷ xs) e (suc i) = canonical-below xs (both-true (ltb x p) (canonical xs) e .1) i
+
+-- a test over a list that goes by its elements: at the place i, and at the end
+module _ (a : List ℕ) (i : ℕ) where
+  front : i < length a → drop i a ≡ getD a i 0 ∷ drop (i + 1) a
+  front h = rw (add-one, drop-cons a i 0)
+
+  pub canonical-at : i < length a → canonical (drop i a) ≡ (ltb (getD a i 0) p && canonical (drop (i + 1) a))
+  unfolding canonical
+  canonical-at h = ap canonical (front h)
+
+  pub canonical-end : length a ≤ i → canonical (drop i a) ≡ true
+  unfolding canonical
+  canonical-end h = ap canonical (drop-of-length-le a h)
+
+  pub member-at : (x : ℕ) → i < length a → member x (drop i a) ≡ (eqb (getD a i 0) x || member x (drop (i + 1) a))
+  unfolding member
+  member-at x h = ap (member x) (front h)
+
+  pub member-end : (x : ℕ) → length a ≤ i → member x (drop i a) ≡ false
+  unfolding member
+  member-end x h = ap (member x) (drop-of-length-le a h)
+
+  distinct-at : i < length a → distinct (drop i a) ≡ (not (member (getD a i 0) (drop (i + 1) a)) && distinct (drop (i + 1) a))
+  unfolding distinct
+  distinct-at h = ap distinct (front h)
+
+  pub distinct-end : length a ≤ i → distinct (drop i a) ≡ true
+  unfolding distinct
+  distinct-end h = ap distinct (drop-of-length-le a h)
+
+  -- a turn of a loop that asks whether the element at i is among those after it, `&a[i + 1..]`
+  pub distinct-turn : i < length a → (b : Bool) → member (getD a i 0) (take (length a - (i + 1)) (drop (i + 1) a)) ≡ b
+      → distinct (drop i a) ≡ (not b && distinct (drop (i + 1) a))
+  distinct-turn h b e =
+      distinct-at h ∙ ap (λ (t : Bool). not t && distinct (drop (i + 1) a)) (ap (member (getD a i 0)) (sym rest) ∙ e)
+    where
+      rest : take (length a - (i + 1)) (drop (i + 1) a) ≡ drop (i + 1) a
+      rest = take-all (length a - (i + 1)) (drop (i + 1) a) (rw length-drop (le-refl (length a - (i + 1))))

@@ -1,0 +1,64 @@
+-- "Where a call is turned back" (document 01): one definition for each line of the table.
+use mathlib.Core.Bool.{Bool, true, false, cond, not, _&&_, _||_}
+use mathlib.Core.List.{List, [], _∷_}
+use Prim.Native.Nat.{ℕ}
+use lib.ListN.{length, take}
+use lib.Dec.{eqb, ltb}
+use Rattle.algebra.specs.Prime.{p}
+
+-- a number, and whether its condition holds
+pub record Condition : Type 0 where
+  pub number : ℕ
+  pub holds : Bool
+
+-- "The lowest number wins, and only these conditions refuse.": of conditions in rising order, the number of the first that holds, and
+-- 0 where none does
+abbrev pub lowest : List Condition → ℕ
+lowest [] = 0
+lowest (c ∷ cs) = cond (c .holds) (c .number) (lowest cs)
+
+-- every number is canonical
+unfoldable pub canonical : List ℕ → Bool
+canonical [] = true
+canonical (x ∷ xs) = ltb x p && canonical xs
+
+-- x is among the numbers
+unfoldable pub member : ℕ → List ℕ → Bool
+member x [] = false
+member x (y ∷ ys) = eqb y x || member x ys
+
+-- no two numbers are equal
+unfoldable pub distinct : List ℕ → Bool
+distinct [] = true
+distinct (x ∷ xs) = not (member x xs) && distinct xs
+
+-- "rows | 1 | a row not 94 values"
+abbrev pub rowLength : List ℕ → Condition
+rowLength row = record { number = 1; holds = not (eqb (length row) 94) }
+
+-- "masks | 2 | not 25 values"
+abbrev pub maskCount : List ℕ → Condition
+maskCount masks = record { number = 2; holds = not (eqb (length masks) 25) }
+
+-- "value buffer | 3 | under 226 values (only the first 226 are written)"
+abbrev pub valueBuffer : ℕ → Condition
+valueBuffer room = record { number = 3; holds = ltb room 226 }
+
+-- "masks | 5 | one not below p, or two of the first five equal"
+abbrev pub maskContents : List ℕ → Condition
+maskContents masks = record { number = 5; holds = not (canonical masks) || not (distinct (take 5 masks)) }
+
+-- "row contents | 6 | one not below p"
+abbrev pub rowContents : List ℕ → Condition
+rowContents row = record { number = 6; holds = not (canonical row) }
+
+-- "weights, alphas, accumulators, a lone operand or folded value | 7 | one not below p"
+abbrev pub notBelowP : List ℕ → Condition
+notBelowP xs = record { number = 7; holds = not (canonical xs) }
+
+-- the conditions on the lengths of the masks and of a pair of rows, and on their contents
+abbrev pub sizes : List ℕ → List ℕ → List ℕ → List Condition
+sizes masks lv nv = rowLength lv ∷ rowLength nv ∷ maskCount masks ∷ []
+
+abbrev pub contents : List ℕ → List ℕ → List ℕ → List Condition
+contents masks lv nv = maskContents masks ∷ rowContents lv ∷ rowContents nv ∷ []

@@ -1,0 +1,8 @@
+pub mod Remainders
+pub mod Laws
+pub mod Digits
+pub mod Folding
+pub mod Operands
+pub mod Field
+pub mod Worked
+pub mod Called

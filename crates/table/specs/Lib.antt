@@ -1,0 +1,10 @@
+pub mod Columns
+pub mod Masks
+pub mod Cells
+pub mod Rows
+pub mod Entry
+pub mod CpuStark
+pub mod SimpleArithmaticOp
+pub mod Tape
+pub mod CallSc
+pub mod Table

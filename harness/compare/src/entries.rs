@@ -1,0 +1,48 @@
+//! The functions that are compared, whoever answers them.
+
+use olavm::Pair;
+
+/// The answer of an operation on residues: a refusal number, or 0 and the result.
+#[repr(C)]
+#[derive(Clone, Copy, Debug, PartialEq, Eq)]
+pub struct FelmugoResidue {
+    /// 0, or the refusal's number.
+    pub number: u64,
+    /// The result, or 0.
+    pub value: u64,
+}
+
+/// The inputs of a call for the values of a pair, of any lengths.
+#[derive(Clone, Copy, Debug)]
+#[allow(missing_docs)]
+pub struct Call<'a> {
+    pub masks: &'a [u64],
+    pub lv: &'a [u64],
+    pub nv: &'a [u64],
+    pub z_last: u64,
+    pub lagrange_basis_first: u64,
+}
+
+impl<'a> From<&'a Pair> for Call<'a> {
+    fn from(pair: &'a Pair) -> Self {
+        Self {
+            masks: &pair.masks,
+            lv: &pair.lv,
+            nv: &pair.nv,
+            z_last: pair.z_last,
+            lagrange_basis_first: pair.lagrange_basis_first,
+        }
+    }
+}
+
+/// The exported functions.
+pub trait Entries {
+    /// `a + b` modulo p.
+    fn add(&self, a: u64, b: u64) -> FelmugoResidue;
+    /// `a − b` modulo p.
+    fn sub(&self, a: u64, b: u64) -> FelmugoResidue;
+    /// `a · b` modulo p.
+    fn mul(&self, a: u64, b: u64) -> FelmugoResidue;
+    /// Writes the values of a pair to `out`; the answer is 0 or the refusal's number.
+    fn pair_values(&self, call: Call, out: &mut [u64]) -> u64;
+}

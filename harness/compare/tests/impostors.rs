@@ -1,0 +1,229 @@
+//! The comparison itself: it passes what answers as it should, and finds who does not.
+
+use compare::{model, refusals, residues, values, Call, Entries, FelmugoResidue, Tally};
+use fields::{Plain, Residue, P};
+use olavm::{Reference, COLUMNS, VALUES};
+use pairs::columns::{IS_EXT_LINE, PC};
+use pairs::kinds::Kind;
+use plonky2::field::types::Field;
+
+/// Answers as it should.
+struct Faithful(Reference);
+
+fn operation(a: u64, b: u64, meant: fn(Plain, Plain) -> Plain) -> FelmugoResidue {
+    if a >= P || b >= P {
+        return FelmugoResidue {
+            number: 7,
+            value: 0,
+        };
+    }
+    let of = Plain::from_canonical_u64;
+    FelmugoResidue {
+        number: 0,
+        value: meant(of(a), of(b)).canonical(),
+    }
+}
+
+impl Entries for Faithful {
+    fn add(&self, a: u64, b: u64) -> FelmugoResidue {
+        operation(a, b, |a, b| a + b)
+    }
+
+    fn sub(&self, a: u64, b: u64) -> FelmugoResidue {
+        operation(a, b, |a, b| a - b)
+    }
+
+    fn mul(&self, a: u64, b: u64) -> FelmugoResidue {
+        operation(a, b, |a, b| a * b)
+    }
+
+    fn pair_values(&self, call: Call, out: &mut [u64]) -> u64 {
+        match model::pair_values(self.0, call, out.len()) {
+            Ok(values) => {
+                out[..VALUES].copy_from_slice(&values);
+                0
+            }
+            Err(number) => number,
+        }
+    }
+}
+
+/// Answers as it should but for sums, whose operands it reduces.
+struct Reducing(Faithful);
+
+impl Entries for Reducing {
+    fn add(&self, a: u64, b: u64) -> FelmugoResidue {
+        self.0.add(a % P, b % P)
+    }
+
+    fn sub(&self, a: u64, b: u64) -> FelmugoResidue {
+        self.0.sub(a, b)
+    }
+
+    fn mul(&self, a: u64, b: u64) -> FelmugoResidue {
+        self.0.mul(a, b)
+    }
+
+    fn pair_values(&self, call: Call, out: &mut [u64]) -> u64 {
+        self.0.pair_values(call, out)
+    }
+}
+
+/// Answers as it should but for the values of pairs.
+struct Impostor<F>(Faithful, F);
+
+impl<F: Fn(&Faithful, Call, &mut [u64]) -> u64> Entries for Impostor<F> {
+    fn add(&self, a: u64, b: u64) -> FelmugoResidue {
+        self.0.add(a, b)
+    }
+
+    fn sub(&self, a: u64, b: u64) -> FelmugoResidue {
+        self.0.sub(a, b)
+    }
+
+    fn mul(&self, a: u64, b: u64) -> FelmugoResidue {
+        self.0.mul(a, b)
+    }
+
+    fn pair_values(&self, call: Call, out: &mut [u64]) -> u64 {
+        self.1(&self.0, call, out)
+    }
+}
+
+fn compare(entries: &dyn Entries, rust: Reference) -> Tally {
+    let mut tally = Tally::default();
+    residues::compare(entries, 1, 100, &mut tally);
+    refusals::compare(entries, rust, 1, 1, &mut tally);
+    values::compare(entries, rust, 1, 1000, &mut tally);
+    tally
+}
+
+/// Whether the comparison finds the impostor.
+fn is_found(answer: impl Fn(&Faithful, Call, &mut [u64]) -> u64) -> bool {
+    let Some(rust) = Reference::find() else {
+        return true;
+    };
+    compare(&Impostor(Faithful(rust), answer), rust).failed() > 0
+}
+
+#[test]
+fn the_faithful_pass() {
+    let Some(rust) = Reference::find() else {
+        return;
+    };
+    let tally = compare(&Faithful(rust), rust);
+    assert_eq!(tally.failed(), 0, "{tally}");
+    assert!(tally.passed() > 2000, "{tally}");
+}
+
+#[test]
+fn a_reduced_operand_is_found() {
+    let Some(rust) = Reference::find() else {
+        return;
+    };
+    assert!(compare(&Reducing(Faithful(rust)), rust).failed() > 0);
+}
+
+#[test]
+fn number_one_for_everybody_is_found() {
+    assert!(is_found(|_, _, _| 1));
+}
+
+#[test]
+fn the_zero_rows_values_for_every_pair_are_found() {
+    assert!(is_found(|faithful, call, out| {
+        let zero = [0; COLUMNS];
+        let number = model::refusal(call, out.len());
+        if number == 0 {
+            let call = Call {
+                lv: &zero,
+                nv: &zero,
+                ..call
+            };
+            faithful.pair_values(call, out);
+        }
+        number
+    }));
+}
+
+#[test]
+fn a_buffer_written_in_a_refusal_is_found() {
+    assert!(is_found(|faithful, call, out| {
+        let number = faithful.pair_values(call, out);
+        if number != 0 {
+            out.fill(0);
+        }
+        number
+    }));
+}
+
+#[test]
+fn a_place_written_past_the_values_is_found() {
+    assert!(is_found(|faithful, call, out| {
+        let number = faithful.pair_values(call, out);
+        if number == 0 && out.len() > VALUES {
+            out[VALUES] = 0;
+        }
+        number
+    }));
+}
+
+#[test]
+fn a_forgotten_weight_is_found() {
+    assert!(is_found(|faithful, call, out| {
+        let z_last = if call.z_last < P {
+            call.z_last.min(1)
+        } else {
+            P
+        };
+        faithful.pair_values(Call { z_last, ..call }, out)
+    }));
+}
+
+#[test]
+fn a_result_that_is_not_canonical_is_found() {
+    assert!(is_found(|faithful, call, out| {
+        let number = faithful.pair_values(call, out);
+        for value in out.iter_mut().filter(|value| number == 0 && **value == 0) {
+            *value = P;
+        }
+        number
+    }));
+}
+
+#[test]
+fn the_pc_in_value_147_is_found() {
+    assert!(is_found(|faithful, call, out| {
+        let number = faithful.pair_values(call, out);
+        if number == 0 {
+            let of = |row: &[u64], column: usize| Plain::from_canonical_u64(row[column]);
+            let (lv, nv) = (call.lv, call.nv);
+            let end = of(nv, Kind::End.selector());
+            let mended = of(nv, IS_EXT_LINE) * (Plain::ONE - end) * (of(nv, PC) - of(lv, PC));
+            out[147 - 1] = mended.canonical();
+        }
+        number
+    }));
+}
+
+#[test]
+fn the_highest_number_is_found() {
+    assert!(is_found(|faithful, call, out| {
+        match faithful.pair_values(call, out) {
+            6 if call.z_last.max(call.lagrange_basis_first) >= P => 7,
+            number => number,
+        }
+    }));
+}
+
+#[test]
+fn an_accepted_p_is_found() {
+    assert!(is_found(|faithful, call, out| {
+        let nv: Vec<u64> = call
+            .nv
+            .iter()
+            .map(|n| if *n == P { 0 } else { *n })
+            .collect();
+        faithful.pair_values(Call { nv: &nv, ..call }, out)
+    }));
+}

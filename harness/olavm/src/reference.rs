@@ -1,0 +1,103 @@
+//! The answers of the listed Rust.
+
+use std::marker::PhantomData;
+
+use core::vm::opcodes::supply_masks;
+use fields::{Plain, Residue};
+use plonky2::field::packed::PackedField;
+
+use crate::cpu::{columns::get_cpu_col_name_map, cpu_stark::CpuStark};
+use crate::recording::{recorded, Recording};
+use crate::stark::{
+    constraint_consumer::ConstraintConsumer, stark::Stark, vars::StarkEvaluationVars,
+};
+use crate::{Masks, Pair, Values, COLUMNS, VALUES};
+
+/// The listed Rust, `eval_packed_generic` of `CpuStark` with one lane over the base field.
+#[derive(Clone, Copy, Debug)]
+pub struct Reference(());
+
+impl Reference {
+    /// The listed Rust, if its source was there when this was built.
+    pub fn find() -> Option<Self> {
+        Some(Self(()))
+    }
+
+    /// The values of a pair, each with its weight applied.
+    pub fn values(self, pair: &Pair) -> Values {
+        self.values_over::<Plain>(pair)
+    }
+
+    /// The same, computed over the field `F`.
+    pub fn values_over<F: Residue>(self, pair: &Pair) -> Values {
+        let of = |n| Recording(F::from_canonical_u64(n));
+        let mut consumer = ConstraintConsumer::new(
+            vec![F::ZERO],
+            of(pair.z_last),
+            of(pair.lagrange_basis_first),
+            Recording::ZEROS,
+        );
+        let record = recorded(|| {
+            evaluate(
+                &pair.masks,
+                &pair.lv.map(of),
+                &pair.nv.map(of),
+                &mut consumer,
+            )
+        });
+        record
+            .try_into()
+            .unwrap_or_else(|record: Vec<u64>| panic!("{} values, not {VALUES}", record.len()))
+    }
+
+    /// What the values of a pair, folded over the field `F`, make of each alpha's accumulator.
+    pub fn fold<F: Residue>(self, pair: &Pair, alphas: &[u64], accs: &[u64]) -> Vec<u64> {
+        let of = F::from_canonical_u64;
+        let alphas: Vec<F> = alphas.iter().copied().map(of).collect();
+        let mut accs: Vec<F> = accs.iter().copied().map(of).collect();
+        self.fold_rows(
+            &pair.masks,
+            [&pair.lv.map(of), &pair.nv.map(of)],
+            [of(pair.z_last), of(pair.lagrange_basis_first)],
+            &alphas,
+            &mut accs,
+        );
+        accs.into_iter().map(F::canonical).collect()
+    }
+
+    /// The same with everything but the masks given as elements of `F`: the rows are the
+    /// current and the next, the weights `z_last` and `lagrange_basis_first`.
+    pub fn fold_rows<F: Residue>(
+        self,
+        masks: &Masks,
+        [lv, nv]: [&[F; COLUMNS]; 2],
+        [z_last, lagrange_basis_first]: [F; 2],
+        alphas: &[F],
+        accs: &mut [F],
+    ) {
+        let mut consumer =
+            ConstraintConsumer::new(alphas.to_vec(), z_last, lagrange_basis_first, F::ZERO);
+        consumer.constraint_accs.copy_from_slice(accs);
+        evaluate(masks, lv, nv, &mut consumer);
+        accs.copy_from_slice(&consumer.accumulators());
+    }
+
+    /// The names that the listed `columns.rs` gives to the columns, in their order.
+    pub fn column_names(self) -> Vec<String> {
+        get_cpu_col_name_map().into_values().collect()
+    }
+}
+
+fn evaluate<F: Residue, P: PackedField<Scalar = F>>(
+    masks: &Masks,
+    lv: &[P; COLUMNS],
+    nv: &[P; COLUMNS],
+    consumer: &mut ConstraintConsumer<P>,
+) {
+    supply_masks(masks);
+    let vars = StarkEvaluationVars {
+        local_values: lv,
+        next_values: nv,
+    };
+    CpuStark::<F, 1> { f: PhantomData }.eval_packed_generic::<F, P, 1>(vars, consumer);
+}
