@@ -38,13 +38,7 @@ pub fn constraint_tx_init(
 }
 
 // The constraints that eval_packed_generic yields itself.
-pub fn eval_packed_generic_body(
-    lv: &[u64],
-    nv: &[u64],
-    z_last: u64,
-    out: &mut [u64],
-    at: usize,
-)
+pub fn eval_packed_generic_body(lv: &[u64], nv: &[u64], z_last: u64, out: &mut [u64], at: usize)
     requires rows { ⌜ Rows (now lv) (now nv) ⌝ }
     requires z { ⌜ «z_last» < p ⌝ }
     requires room { ⌜ at + 12 ≤ length (now out) ⌝ }
@@ -58,12 +52,7 @@ pub fn eval_packed_generic_body(
     put(out, at + 10, &filter_imm);
 }
 
-pub fn constraint_ext_lines(
-    lv: &[u64],
-    nv: &[u64],
-    out: &mut [u64],
-    at: usize,
-)
+pub fn constraint_ext_lines(lv: &[u64], nv: &[u64], out: &mut [u64], at: usize)
     requires rows { ⌜ Rows (now lv) (now nv) ⌝ }
     requires room { ⌜ at + 25 ≤ length (now out) ⌝ }
     ensures { λ _. ⌜ now (out .exit) ≡ write (now (out .entry)) at (values residues (cells [] (now (lv .entry)) (now (nv .entry)) 0 0) constraint-ext-lines) ⌝ }
@@ -78,12 +67,7 @@ pub fn constraint_ext_lines(
     put(out, at + 24, &op1_imm);
 }
 
-pub fn constraint_opcode_selector(
-    lv: &[u64],
-    masks: &[u64],
-    out: &mut [u64],
-    at: usize,
-)
+pub fn constraint_opcode_selector(lv: &[u64], masks: &[u64], out: &mut [u64], at: usize)
     requires row { ⌜ Row (now lv) ⌝ }
     requires masks { ⌜ Masks (now masks) ⌝ }
     requires room { ⌜ at + 23 ≤ length (now out) ⌝ }
@@ -97,12 +81,7 @@ pub fn constraint_opcode_selector(
     put(out, at + 21, &sums);
 }
 
-pub fn constraint_operands_mathches_registers(
-    lv: &[u64],
-    nv: &[u64],
-    out: &mut [u64],
-    at: usize,
-)
+pub fn constraint_operands_mathches_registers(lv: &[u64], nv: &[u64], out: &mut [u64], at: usize)
     requires rows { ⌜ Rows (now lv) (now nv) ⌝ }
     requires room { ⌜ at + 36 ≤ length (now out) ⌝ }
     ensures { λ _. ⌜ now (out .exit) ≡ write (now (out .entry)) at (values residues (cells [] (now (lv .entry)) (now (nv .entry)) 0 0) constraint-operands-mathches-registers) ⌝ }
@@ -117,13 +96,7 @@ pub fn constraint_operands_mathches_registers(
     put(out, at + 30, &sums);
 }
 
-pub fn constraint_reg_consistency(
-    lv: &[u64],
-    nv: &[u64],
-    z_last: u64,
-    out: &mut [u64],
-    at: usize,
-)
+pub fn constraint_reg_consistency(lv: &[u64], nv: &[u64], z_last: u64, out: &mut [u64], at: usize)
     requires rows { ⌜ Rows (now lv) (now nv) ⌝ }
     requires z { ⌜ «z_last» < p ⌝ }
     requires room { ⌜ at + 10 ≤ length (now out) ⌝ }

@@ -21,13 +21,7 @@ use cpu_simple_arithmatic_op::simple_arithmatic_op;
 use parts::put;
 
 // Values 1 to 82.
-pub fn eval_context(
-    lv: &[u64],
-    nv: &[u64],
-    z_last: u64,
-    lagrange_basis_first: u64,
-    out: &mut [u64],
-)
+pub fn eval_context(lv: &[u64], nv: &[u64], z_last: u64, lagrange_basis_first: u64, out: &mut [u64])
     requires rows { ⌜ Rows (now lv) (now nv) ⌝ }
     requires z { ⌜ «z_last» < p ⌝ }
     requires f { ⌜ «lagrange_basis_first» < p ⌝ }
@@ -44,12 +38,7 @@ pub fn eval_context(
 }
 
 // Values 83 to 144.
-pub fn eval_instruction(
-    lv: &[u64],
-    nv: &[u64],
-    masks: &[u64],
-    out: &mut [u64],
-)
+pub fn eval_instruction(lv: &[u64], nv: &[u64], masks: &[u64], out: &mut [u64])
     requires rows { ⌜ Rows (now lv) (now nv) ⌝ }
     requires masks { ⌜ Masks (now masks) ⌝ }
     requires room { ⌜ 144 ≤ length (now out) ⌝ }
@@ -62,12 +51,7 @@ pub fn eval_instruction(
 }
 
 // Values 145 to 159.
-pub fn eval_flow(
-    lv: &[u64],
-    nv: &[u64],
-    z_last: u64,
-    out: &mut [u64],
-)
+pub fn eval_flow(lv: &[u64], nv: &[u64], z_last: u64, out: &mut [u64])
     requires rows { ⌜ Rows (now lv) (now nv) ⌝ }
     requires z { ⌜ «z_last» < p ⌝ }
     requires room { ⌜ 159 ≤ length (now out) ⌝ }
@@ -81,13 +65,7 @@ pub fn eval_flow(
 }
 
 // Values 160 to 226.
-pub fn eval_opcodes(
-    lv: &[u64],
-    nv: &[u64],
-    masks: &[u64],
-    z_last: u64,
-    out: &mut [u64],
-)
+pub fn eval_opcodes(lv: &[u64], nv: &[u64], masks: &[u64], z_last: u64, out: &mut [u64])
     requires rows { ⌜ Rows (now lv) (now nv) ⌝ }
     requires masks { ⌜ Masks (now masks) ⌝ }
     requires z { ⌜ «z_last» < p ⌝ }

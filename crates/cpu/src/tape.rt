@@ -12,12 +12,7 @@ ghost use Rattle.table.specs.Entry.{values};
 ghost use Rattle.table.specs.Tape.{tape};
 use parts::put;
 
-pub fn eval_packed_generic(
-    lv: &[u64],
-    nv: &[u64],
-    out: &mut [u64],
-    at: usize,
-)
+pub fn eval_packed_generic(lv: &[u64], nv: &[u64], out: &mut [u64], at: usize)
     requires rows { ⌜ Rows (now lv) (now nv) ⌝ }
     requires room { ⌜ at + 21 ≤ length (now out) ⌝ }
     ensures { λ _. ⌜ now (out .exit) ≡ write (now (out .entry)) at (values residues (cells [] (now (lv .entry)) (now (nv .entry)) 0 0) tape) ⌝ }

@@ -22,4 +22,3 @@ module _ {Γ : Cx} {u : Mo Γ} (m lv nv : List ℕ) (z f : ℕ) where
       values residues (cells m lv nv z f) simple-arithmatic-op ≡ k .result
   unfolding eval values is-op simple-arithmatic-op
   arithOf k a b = rw (a, b) (sym (k .ensures))
-

@@ -1,8 +1,15 @@
 -- The answers as flat structs.
 use Rattle.residue.specs.declared.checked.Residue.{Residue}
 use Rattle.residue.specs.Answer.{number, value}
+use Rattle.judge.specs.declared.Verdict.{Verdict}
+use Rattle.judge.specs.Verdict.{number as verdictNumber, keepsOf}
 use Rattle.ffi.specs.declared.FelmugoResidue.{FelmugoResidue}
+use Rattle.ffi.specs.declared.FelmugoVerdict.{FelmugoVerdict}
 
 -- document 01's number and value of a residue entry's answer
 abbrev pub flatResidue : Residue → FelmugoResidue
 flatResidue r = record { number = number r; value = value r }
+
+-- document 01's number and meaning of the judge's answer
+abbrev pub flatVerdict : Verdict → FelmugoVerdict
+flatVerdict v = record { number = verdictNumber v; keeps = keepsOf v }

@@ -51,14 +51,7 @@ pub fn pair_values(
     ensures number { λ r. ⌜ r ≡ pairValuesRefusal (now (masks .entry)) (now (lv .entry)) (now (nv .entry)) «z_last» «lagrange_basis_first» (length (now (out .entry))) ⌝ }
     ensures buffer { λ _. ⌜ now (out .exit) ≡ pairValuesBuffer (now (masks .entry)) (now (lv .entry)) (now (nv .entry)) «z_last» «lagrange_basis_first» (now (out .entry)) ⌝ }
 {
-    let number = refusal(
-        masks,
-        lv,
-        nv,
-        z_last,
-        lagrange_basis_first,
-        out.len(),
-    );
+    let number = refusal(masks, lv, nv, z_last, lagrange_basis_first, out.len());
     if number != 0 {
         return number;
     }

@@ -44,6 +44,10 @@ maskCount masks = record { number = 2; holds = not (eqb (length masks) 25) }
 abbrev pub valueBuffer : ℕ → Condition
 valueBuffer room = record { number = 3; holds = ltb room 226 }
 
+-- "alphas | 4 | not 1 to 8, or accumulators differ in count": so many alphas, so many accumulators
+abbrev pub alphaCount : ℕ → ℕ → Condition
+alphaCount alphas accs = record { number = 4; holds = eqb alphas 0 || ltb 8 alphas || not (eqb accs alphas) }
+
 -- "masks | 5 | one not below p, or two of the first five equal"
 abbrev pub maskContents : List ℕ → Condition
 maskContents masks = record { number = 5; holds = not (canonical masks) || not (distinct (take 5 masks)) }
@@ -55,6 +59,10 @@ rowContents row = record { number = 6; holds = not (canonical row) }
 -- "weights, alphas, accumulators, a lone operand or folded value | 7 | one not below p"
 abbrev pub notBelowP : List ℕ → Condition
 notBelowP xs = record { number = 7; holds = not (canonical xs) }
+
+-- "judge | 8 | flags not plain": whether they are plain
+abbrev pub flagsNotPlain : Bool → Condition
+flagsNotPlain plain = record { number = 8; holds = not plain }
 
 -- the conditions on the lengths of the masks and of a pair of rows, and on their contents
 abbrev pub sizes : List ℕ → List ℕ → List ℕ → List Condition

@@ -12,6 +12,16 @@ pub struct FelmugoResidue {
     pub value: u64,
 }
 
+/// The answer of the judge: a refusal number, or 0 and whether the pair keeps every rule.
+#[repr(C)]
+#[derive(Clone, Copy, Debug, PartialEq, Eq)]
+pub struct FelmugoVerdict {
+    /// 0, or the refusal's number.
+    pub number: u64,
+    /// 1 for "keeps", else 0.
+    pub keeps: u64,
+}
+
 /// The inputs of a call for the values of a pair, of any lengths.
 #[derive(Clone, Copy, Debug)]
 #[allow(missing_docs)]
@@ -35,6 +45,18 @@ impl<'a> From<&'a Pair> for Call<'a> {
     }
 }
 
+impl Call<'_> {
+    /// The current row is first in its run, as the weights tell.
+    pub fn is_first(self) -> bool {
+        self.lagrange_basis_first != 0
+    }
+
+    /// The current row is last in its run, as the weights tell.
+    pub fn is_last(self) -> bool {
+        self.z_last == 0
+    }
+}
+
 /// The exported functions.
 pub trait Entries {
     /// `a + b` modulo p.
@@ -45,4 +67,8 @@ pub trait Entries {
     fn mul(&self, a: u64, b: u64) -> FelmugoResidue;
     /// Writes the values of a pair to `out`; the answer is 0 or the refusal's number.
     fn pair_values(&self, call: Call, out: &mut [u64]) -> u64;
+    /// Folds the values of a pair into the accumulators; the answer is 0 or the refusal's number.
+    fn pair_fold(&self, call: Call, alphas: &[u64], accs: &mut [u64]) -> u64;
+    /// Judges a pair, for a row that is first and last as the call's weights tell.
+    fn pair_judge(&self, call: Call) -> FelmugoVerdict;
 }

@@ -3,6 +3,8 @@
 mod calls;
 mod entries;
 mod faults;
+pub mod folds;
+pub mod judge;
 #[cfg(libffi)]
 mod linked;
 pub mod model;
@@ -11,7 +13,7 @@ pub mod residues;
 mod tally;
 pub mod values;
 
-pub use entries::{Call, Entries, FelmugoResidue};
+pub use entries::{Call, Entries, FelmugoResidue, FelmugoVerdict};
 pub use tally::Tally;
 
 /// The exported functions of the linked library, if it was there when this was built.

@@ -1,6 +1,6 @@
 //! The exported functions of the linked library.
 
-use crate::{Call, Entries, FelmugoResidue};
+use crate::{Call, Entries, FelmugoResidue, FelmugoVerdict};
 
 // A slice is handed over as its pointer and then its length.
 extern "C" {
@@ -19,6 +19,30 @@ extern "C" {
         out: *mut u64,
         out_len: usize,
     ) -> u64;
+    fn felmugo_pair_fold(
+        masks: *const u64,
+        masks_len: usize,
+        lv: *const u64,
+        lv_len: usize,
+        nv: *const u64,
+        nv_len: usize,
+        z_last: u64,
+        lagrange_basis_first: u64,
+        alphas: *const u64,
+        alphas_len: usize,
+        accs: *mut u64,
+        accs_len: usize,
+    ) -> u64;
+    fn felmugo_pair_judge(
+        masks: *const u64,
+        masks_len: usize,
+        lv: *const u64,
+        lv_len: usize,
+        nv: *const u64,
+        nv_len: usize,
+        first: bool,
+        last: bool,
+    ) -> FelmugoVerdict;
 }
 
 /// The linked library.
@@ -52,6 +76,40 @@ impl Entries for Linked {
                 call.lagrange_basis_first,
                 out.as_mut_ptr(),
                 out.len(),
+            )
+        }
+    }
+
+    fn pair_fold(&self, call: Call, alphas: &[u64], accs: &mut [u64]) -> u64 {
+        unsafe {
+            felmugo_pair_fold(
+                call.masks.as_ptr(),
+                call.masks.len(),
+                call.lv.as_ptr(),
+                call.lv.len(),
+                call.nv.as_ptr(),
+                call.nv.len(),
+                call.z_last,
+                call.lagrange_basis_first,
+                alphas.as_ptr(),
+                alphas.len(),
+                accs.as_mut_ptr(),
+                accs.len(),
+            )
+        }
+    }
+
+    fn pair_judge(&self, call: Call) -> FelmugoVerdict {
+        unsafe {
+            felmugo_pair_judge(
+                call.masks.as_ptr(),
+                call.masks.len(),
+                call.lv.as_ptr(),
+                call.lv.len(),
+                call.nv.as_ptr(),
+                call.nv.len(),
+                call.is_first(),
+                call.is_last(),
             )
         }
     }

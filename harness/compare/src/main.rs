@@ -2,7 +2,7 @@
 
 use std::process::ExitCode;
 
-use compare::{linked, refusals, residues, values, Tally};
+use compare::{folds, judge, linked, refusals, residues, values, Tally};
 use olavm::{Reference, SOURCE_MISSING};
 
 /// The pairs of a short comparison, and the first seed of both.
@@ -29,6 +29,9 @@ fn main() -> ExitCode {
     residues::compare(linked, seed, 100_000, &mut tally);
     refusals::compare(linked, rust, seed, 100, &mut tally);
     values::compare(linked, rust, seed, count, &mut tally);
+    folds::compare_refusals(linked, rust, seed, 20, &mut tally);
+    folds::compare(linked, rust, seed, count, &mut tally);
+    judge::compare(linked, rust, seed, count, &mut tally);
     println!("{tally}");
     ExitCode::from((tally.failed() > 0) as u8)
 }

@@ -5,7 +5,7 @@ use olavm::{Reference, COLUMNS, MASKS, VALUES};
 use pairs::{Class, Rng};
 
 use crate::faults::{resize, Inputs, NUMBERS};
-use crate::{calls, model, Entries, Tally};
+use crate::{calls, judge, model, Entries, Tally};
 
 /// Tries every length, every content at every place and every two equal masks, then
 /// `rounds` times every set of faults.
@@ -17,9 +17,11 @@ pub fn compare(entries: &dyn Entries, rust: Reference, seed: u64, rounds: u64, t
         spoil(&mut inputs, &mut rng);
         let (call, buffer) = (inputs.call(), inputs.buffer);
         let expected = model::pair_values(rust, call, buffer);
-        let outcome = calls::compare(entries, call, &expected, buffer, &mut rng)
-            .map_err(|difference| format!("{difference}\n{inputs:?}"));
+        let told = |difference| format!("{difference}\n{inputs:?}");
+        let outcome = calls::compare(entries, call, &expected, buffer, &mut rng).map_err(told);
         tally.note(class, outcome);
+        let outcome = judge::verdict(entries, call, model::pair_judge(rust, call)).map_err(told);
+        tally.note(&format!("{class}, judged"), outcome);
     };
 
     for length in 0..=2 * COLUMNS {

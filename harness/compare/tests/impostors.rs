@@ -1,6 +1,9 @@
 //! The comparison itself: it passes what answers as it should, and finds who does not.
 
-use compare::{model, refusals, residues, values, Call, Entries, FelmugoResidue, Tally};
+use compare::{
+    folds, judge, model, refusals, residues, values, Call, Entries, FelmugoResidue, FelmugoVerdict,
+    Tally,
+};
 use fields::{Plain, Residue, P};
 use olavm::{Reference, COLUMNS, VALUES};
 use pairs::columns::{IS_EXT_LINE, PC};
@@ -46,6 +49,20 @@ impl Entries for Faithful {
             Err(number) => number,
         }
     }
+
+    fn pair_fold(&self, call: Call, alphas: &[u64], accs: &mut [u64]) -> u64 {
+        match model::pair_fold(self.0, call, alphas, accs) {
+            Ok(folded) => {
+                accs.copy_from_slice(&folded);
+                0
+            }
+            Err(number) => number,
+        }
+    }
+
+    fn pair_judge(&self, call: Call) -> FelmugoVerdict {
+        model::pair_judge(self.0, call)
+    }
 }
 
 /// Answers as it should but for sums, whose operands it reduces.
@@ -66,6 +83,14 @@ impl Entries for Reducing {
 
     fn pair_values(&self, call: Call, out: &mut [u64]) -> u64 {
         self.0.pair_values(call, out)
+    }
+
+    fn pair_fold(&self, call: Call, alphas: &[u64], accs: &mut [u64]) -> u64 {
+        self.0.pair_fold(call, alphas, accs)
+    }
+
+    fn pair_judge(&self, call: Call) -> FelmugoVerdict {
+        self.0.pair_judge(call)
     }
 }
 
@@ -88,6 +113,72 @@ impl<F: Fn(&Faithful, Call, &mut [u64]) -> u64> Entries for Impostor<F> {
     fn pair_values(&self, call: Call, out: &mut [u64]) -> u64 {
         self.1(&self.0, call, out)
     }
+
+    fn pair_fold(&self, call: Call, alphas: &[u64], accs: &mut [u64]) -> u64 {
+        self.0.pair_fold(call, alphas, accs)
+    }
+
+    fn pair_judge(&self, call: Call) -> FelmugoVerdict {
+        self.0.pair_judge(call)
+    }
+}
+
+/// Answers as it should but for verdicts.
+struct Misjudging<F>(Faithful, F);
+
+impl<F: Fn(&Faithful, Call) -> FelmugoVerdict> Entries for Misjudging<F> {
+    fn add(&self, a: u64, b: u64) -> FelmugoResidue {
+        self.0.add(a, b)
+    }
+
+    fn sub(&self, a: u64, b: u64) -> FelmugoResidue {
+        self.0.sub(a, b)
+    }
+
+    fn mul(&self, a: u64, b: u64) -> FelmugoResidue {
+        self.0.mul(a, b)
+    }
+
+    fn pair_values(&self, call: Call, out: &mut [u64]) -> u64 {
+        self.0.pair_values(call, out)
+    }
+
+    fn pair_fold(&self, call: Call, alphas: &[u64], accs: &mut [u64]) -> u64 {
+        self.0.pair_fold(call, alphas, accs)
+    }
+
+    fn pair_judge(&self, call: Call) -> FelmugoVerdict {
+        self.1(&self.0, call)
+    }
+}
+
+/// Answers as it should but for folds.
+struct Misfolding<F>(Faithful, F);
+
+impl<F: Fn(&Faithful, Call, &[u64], &mut [u64]) -> u64> Entries for Misfolding<F> {
+    fn add(&self, a: u64, b: u64) -> FelmugoResidue {
+        self.0.add(a, b)
+    }
+
+    fn sub(&self, a: u64, b: u64) -> FelmugoResidue {
+        self.0.sub(a, b)
+    }
+
+    fn mul(&self, a: u64, b: u64) -> FelmugoResidue {
+        self.0.mul(a, b)
+    }
+
+    fn pair_values(&self, call: Call, out: &mut [u64]) -> u64 {
+        self.0.pair_values(call, out)
+    }
+
+    fn pair_fold(&self, call: Call, alphas: &[u64], accs: &mut [u64]) -> u64 {
+        self.1(&self.0, call, alphas, accs)
+    }
+
+    fn pair_judge(&self, call: Call) -> FelmugoVerdict {
+        self.0.pair_judge(call)
+    }
 }
 
 fn compare(entries: &dyn Entries, rust: Reference) -> Tally {
@@ -95,6 +186,9 @@ fn compare(entries: &dyn Entries, rust: Reference) -> Tally {
     residues::compare(entries, 1, 100, &mut tally);
     refusals::compare(entries, rust, 1, 1, &mut tally);
     values::compare(entries, rust, 1, 1000, &mut tally);
+    folds::compare_refusals(entries, rust, 1, 1, &mut tally);
+    folds::compare(entries, rust, 1, 1000, &mut tally);
+    judge::compare(entries, rust, 1, 1000, &mut tally);
     tally
 }
 
@@ -104,6 +198,22 @@ fn is_found(answer: impl Fn(&Faithful, Call, &mut [u64]) -> u64) -> bool {
         return true;
     };
     compare(&Impostor(Faithful(rust), answer), rust).failed() > 0
+}
+
+/// Whether the comparison finds who judges otherwise.
+fn is_misjudging_found(answer: impl Fn(&Faithful, Call) -> FelmugoVerdict) -> bool {
+    let Some(rust) = Reference::find() else {
+        return true;
+    };
+    compare(&Misjudging(Faithful(rust), answer), rust).failed() > 0
+}
+
+/// Whether the comparison finds who folds otherwise.
+fn is_misfolding_found(answer: impl Fn(&Faithful, Call, &[u64], &mut [u64]) -> u64) -> bool {
+    let Some(rust) = Reference::find() else {
+        return true;
+    };
+    compare(&Misfolding(Faithful(rust), answer), rust).failed() > 0
 }
 
 #[test]
@@ -133,7 +243,7 @@ fn number_one_for_everybody_is_found() {
 fn the_zero_rows_values_for_every_pair_are_found() {
     assert!(is_found(|faithful, call, out| {
         let zero = [0; COLUMNS];
-        let number = model::refusal(call, out.len());
+        let number = model::values_refusal(call, out.len());
         if number == 0 {
             let call = Call {
                 lv: &zero,
@@ -225,5 +335,87 @@ fn an_accepted_p_is_found() {
             .map(|n| if *n == P { 0 } else { *n })
             .collect();
         faithful.pair_values(Call { nv: &nv, ..call }, out)
+    }));
+}
+
+#[test]
+fn keeps_to_all_is_found() {
+    assert!(is_misjudging_found(|faithful, call| {
+        let FelmugoVerdict { number, .. } = faithful.pair_judge(call);
+        let keeps = (number == 0).into();
+        FelmugoVerdict { number, keeps }
+    }));
+}
+
+#[test]
+fn breaks_to_all_is_found() {
+    assert!(is_misjudging_found(|faithful, call| FelmugoVerdict {
+        keeps: 0,
+        ..faithful.pair_judge(call)
+    }));
+}
+
+#[test]
+fn a_verdict_on_flags_that_are_not_plain_is_found() {
+    assert!(is_misjudging_found(|faithful, call| {
+        match faithful.pair_judge(call) {
+            FelmugoVerdict { number: 8, .. } => FelmugoVerdict {
+                number: 0,
+                keeps: 0,
+            },
+            verdict => verdict,
+        }
+    }));
+}
+
+#[test]
+fn first_and_last_exchanged_are_found() {
+    assert!(is_misjudging_found(|faithful, call| {
+        faithful.pair_judge(Call {
+            z_last: (!call.is_first()).into(),
+            lagrange_basis_first: call.is_last().into(),
+            ..call
+        })
+    }));
+}
+
+#[test]
+fn the_first_alpha_only_is_found() {
+    assert!(is_misfolding_found(|faithful, call, alphas, accs| {
+        let mut folded = accs.to_vec();
+        let number = faithful.pair_fold(call, alphas, &mut folded);
+        if let (Some(first), Some(acc)) = (folded.first(), accs.first_mut()) {
+            *acc = *first;
+        }
+        number
+    }));
+}
+
+#[test]
+fn accumulators_handed_back_untouched_are_found() {
+    assert!(is_misfolding_found(|_, call, alphas, accs| {
+        model::fold_refusal(call, alphas, accs)
+    }));
+}
+
+#[test]
+fn exchanged_weights_are_found() {
+    assert!(is_misfolding_found(|faithful, call, alphas, accs| {
+        let exchanged = Call {
+            z_last: call.lagrange_basis_first,
+            lagrange_basis_first: call.z_last,
+            ..call
+        };
+        faithful.pair_fold(exchanged, alphas, accs)
+    }));
+}
+
+#[test]
+fn a_ninth_alpha_is_found() {
+    assert!(is_misfolding_found(|faithful, call, alphas, accs| {
+        match faithful.pair_fold(call, alphas, accs) {
+            4 if alphas.len() == 9 && accs.len() == 9 => 0,
+            number => number,
+        }
     }));
 }

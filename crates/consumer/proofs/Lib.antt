@@ -1,0 +1,5 @@
+pub mod Laws
+pub mod Folds
+pub mod Lent
+pub mod Lends
+pub mod ByValue

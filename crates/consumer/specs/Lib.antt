@@ -1,0 +1,2 @@
+pub mod Consumer
+pub mod Yielded

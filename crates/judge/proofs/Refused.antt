@@ -1,0 +1,99 @@
+-- The refusal of a call of the judge, test by test, and its verdict.
+use mathlib.Core.Path.{_≡_, refl, sym, ap, _∙_}
+use mathlib.Core.Bool.{Bool, true, false, cond, not, _&&_}
+use mathlib.Core.List.{List, [], _∷_, _++_}
+use Prim.Native.Nat.{ℕ, zero, suc}
+use lib.Dec.{eqb, eqb·suc-zero}
+use Rattle.refusals.specs.Refusal.{Condition, lowest, sizes, contents, flagsNotPlain}
+use Rattle.refusals.proofs.Laws.{Clear, clear, before, behind}
+use Rattle.checks.proofs.Laws.{rows-are, masks-are}
+use Rattle.rulebook.specs.Plain.{pairPlain, pairKeeps}
+use Rattle.judge.specs.declared.Verdict.the-variants.{Keeps, Breaks, Refused}
+use Rattle.judge.specs.Verdict.{number, keepsOf, judgeRefusal, unless, verdictOf, Pair}
+
+-- of conditions none of which holds, neither the first ones nor the others do
+clear-front : (cs ds : List Condition) → Clear (cs ++ ds) → Clear cs
+clear-front [] ds k = tt
+clear-front (c ∷ cs) ds k = (k .0, clear-front cs ds (k .1))
+
+clear-back : (cs ds : List Condition) → Clear (cs ++ ds) → Clear ds
+clear-back [] ds k = k
+clear-back (c ∷ cs) ds k = clear-back cs ds (k .1)
+
+module _ (masks lv nv : List ℕ) where
+  abbrev flags : List Condition
+  flags = flagsNotPlain (pairPlain lv nv) ∷ []
+
+  pub sizes-refused : (n : ℕ) → n ≡ lowest (sizes masks lv nv) → (n ≡ 0 → ⊥) → n ≡ judgeRefusal masks lv nv
+  unfolding judgeRefusal
+  sizes-refused n e h = before (sizes masks lv nv) (contents masks lv nv ++ flags) n e h
+
+  module _ (s : lowest (sizes masks lv nv) ≡ 0) where
+    after-sizes : judgeRefusal masks lv nv ≡ lowest (contents masks lv nv ++ flags)
+    unfolding judgeRefusal
+    after-sizes = behind (sizes masks lv nv) (contents masks lv nv ++ flags) (clear (sizes masks lv nv) tt s)
+
+    pub contents-refused : (n : ℕ) → n ≡ lowest (contents masks lv nv) → (n ≡ 0 → ⊥) → n ≡ judgeRefusal masks lv nv
+    contents-refused n e h = before (contents masks lv nv) flags n e h ∙ sym after-sizes
+
+    module _ (k : lowest (contents masks lv nv) ≡ 0) where
+      after-contents : judgeRefusal masks lv nv ≡ lowest flags
+      after-contents = after-sizes ∙ behind (contents masks lv nv) flags (clear (contents masks lv nv) tt k)
+
+      pub flags-refused : not (pairPlain lv nv) ≡ true → 8 ≡ judgeRefusal masks lv nv
+      flags-refused h = sym (after-contents ∙ rw h)
+
+      pub accepted : not (pairPlain lv nv) ≡ false → 0 ≡ judgeRefusal masks lv nv
+      accepted h = sym (after-contents ∙ rw h)
+
+  -- masks and rows that are not turned back
+  pub pair-is : judgeRefusal masks lv nv ≡ 0 → Pair masks lv nv
+  unfolding judgeRefusal
+  pair-is e =
+      let all : Clear (sizes masks lv nv ++ contents masks lv nv ++ flags) = clear (sizes masks lv nv ++ contents masks lv nv ++ flags) tt e in
+      let s : lowest (sizes masks lv nv) ≡ 0 = behind (sizes masks lv nv) [] (clear-front (sizes masks lv nv) (contents masks lv nv ++ flags) all) in
+      let rest : Clear (contents masks lv nv ++ flags) = clear-back (sizes masks lv nv) (contents masks lv nv ++ flags) all in
+      let k : lowest (contents masks lv nv) ≡ 0 = behind (contents masks lv nv) [] (clear-front (contents masks lv nv) flags rest) in
+      record { rows = rows-are masks lv nv s k; opcodes = masks-are masks lv nv s k }
+
+  module _ (first last : Bool) where
+    pub refused : (n : ℕ) → n ≡ judgeRefusal masks lv nv → (n ≡ 0 → ⊥) → Refused n ≡ verdictOf masks lv nv first last
+    unfolding verdictOf
+    refused n e h = go (judgeRefusal masks lv nv) e
+      where
+        go : (m : ℕ) → n ≡ m → Refused n ≡ unless m (pairKeeps masks lv nv first last)
+        go zero d = absurd (h d)
+        go (suc m) d = ap Refused d
+
+    module _ (n : ℕ) (e : n ≡ judgeRefusal masks lv nv) (z : n ≡ 0) (b : Bool) (k : b ≡ pairKeeps masks lv nv first last) where
+      pub keeps-said : b ≡ true → Keeps ≡ verdictOf masks lv nv first last
+      unfolding verdictOf
+      keeps-said t =
+          let r : judgeRefusal masks lv nv ≡ 0 = sym e ∙ z in
+          rw (r, ← k, t)
+
+      pub breaks-said : b ≡ false → Breaks ≡ verdictOf masks lv nv first last
+      unfolding verdictOf
+      breaks-said t =
+          let r : judgeRefusal masks lv nv ≡ 0 = sym e ∙ z in
+          rw (r, ← k, t)
+
+-- what the verdict tells: the number of the refusal, and 1 exactly if the call is not turned back and every rule is kept
+pub number-is : (masks lv nv : List ℕ) (first last : Bool) → number (verdictOf masks lv nv first last) ≡ judgeRefusal masks lv nv
+unfolding verdictOf
+number-is masks lv nv first last = go (judgeRefusal masks lv nv) (pairKeeps masks lv nv first last)
+  where
+    go : (n : ℕ) (b : Bool) → number (unless n b) ≡ n
+    go zero true = refl
+    go zero false = refl
+    go (suc n) b = refl
+
+pub keepsOf-is : (masks lv nv : List ℕ) (first last : Bool) →
+    keepsOf (verdictOf masks lv nv first last) ≡ cond (eqb (judgeRefusal masks lv nv) 0 && pairKeeps masks lv nv first last) 1 0
+unfolding verdictOf
+keepsOf-is masks lv nv first last = go (judgeRefusal masks lv nv) (pairKeeps masks lv nv first last)
+  where
+    go : (n : ℕ) (b : Bool) → keepsOf (unless n b) ≡ cond (eqb n 0 && b) 1 0
+    go zero true = refl
+    go zero false = refl
+    go (suc n) b = rw (eqb·suc-zero n)

@@ -1,0 +1,2 @@
+pub mod PairFold
+pub mod ManyFold

@@ -1,0 +1,5 @@
+pub mod Rule
+pub mod Kind
+pub mod Words
+pub mod Rulebook
+pub mod Plain

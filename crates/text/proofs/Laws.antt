@@ -1,0 +1,106 @@
+-- How the functions of this crate go through the definitions of specs/.
+use mathlib.Core.Path.{_≡_, refl, sym, ap, ap₂, _∙_}
+use mathlib.Core.Bool.{Bool, true, false}
+use mathlib.Core.List.{List, [], _∷_, _++_}
+use Prim.Native.Nat.{ℕ, zero, suc, _+_, _-_, _*_, _/_, _%_, _^_, _≤_, _<_}
+use native.Mathlib.Numerals.{add-one}
+use native.Mathlib.Omega.{arith}
+use native.Mathlib.Nat.{pow-suc, one-le-pow, pow-le-pow-right}
+use lib.ListN.{length, getD, take, drop, set, length-drop}
+use lib.Seq.{getD-drop, take-suc-set, take-length, drop-drop, paste, take-paste}
+use lib.Dec.{leb, lit<}
+use borrow.Author.Tests.{lt-ltb, le-ltb, leb-true, leb-false}
+use Rattle.io.specs.Digits.{glyph, digits, Fewest}
+use Rattle.text.specs.Words.{littleEndian, words}
+use Rattle.text.specs.Decimal.{digitsOf, decimalOf}
+use Rattle.text.specs.Put.{Put}
+
+-- the value of eight bytes, from the high one down
+abbrev horner : (ℕ → ℕ) → ℕ
+horner g = ((((((g 7 * 256 + g 6) * 256 + g 5) * 256 + g 4) * 256 + g 3) * 256 + g 2) * 256 + g 1) * 256 + g 0
+
+eight : (d : List ℕ) → 8 ≤ length d → littleEndian (take 8 d) ≡ horner (λ k. getD d k 0)
+unfolding littleEndian
+eight [] h = absurd (omega arith)
+eight (a ∷ []) h = absurd (omega arith)
+eight (a ∷ b ∷ []) h = absurd (omega arith)
+eight (a ∷ b ∷ c ∷ []) h = absurd (omega arith)
+eight (a ∷ b ∷ c ∷ d ∷ []) h = absurd (omega arith)
+eight (a ∷ b ∷ c ∷ d ∷ e ∷ []) h = absurd (omega arith)
+eight (a ∷ b ∷ c ∷ d ∷ e ∷ f ∷ []) h = absurd (omega arith)
+eight (a ∷ b ∷ c ∷ d ∷ e ∷ f ∷ g ∷ []) h = absurd (omega arith)
+eight (a ∷ b ∷ c ∷ d ∷ e ∷ f ∷ g ∷ i ∷ r) h = omega arith
+
+pub word-is : (b : List ℕ) (at : ℕ) → at + 8 ≤ length b → littleEndian (take 8 (drop at b)) ≡ horner (λ k. getD b (at + k) 0)
+word-is b at h = eight (drop at b) (rw length-drop (omega arith)) ∙ simp getD-drop
+
+words-snoc : (i : ℕ) (b : List ℕ) → words (suc i) b ≡ words i b ++ (littleEndian (take 8 (drop (8 * i) b)) ∷ [])
+unfolding words
+words-snoc zero b = refl
+words-snoc (suc i) b =
+    let e : 8 * suc i ≡ 8 + 8 * i = omega arith in
+    ap (λ (l : List ℕ). littleEndian (take 8 b) ∷ l) (words-snoc i (drop 8 b) ∙ rw (drop-drop, e))
+
+pub words-none : (b out : List ℕ) → take 0 out ≡ words 0 b
+unfolding words
+words-none b out = refl
+
+-- a turn of `text::decode`
+pub words-more : (b out : List ℕ) (i r : ℕ) → i < length out → take i out ≡ words i b → r ≡ littleEndian (take 8 (drop (8 * i) b))
+    → take (i + 1) (set out i r) ≡ words (i + 1) b
+words-more b out i r h e q = rw (add-one, take-suc-set, words-snoc, e, q)
+
+pub words-all : (b out : List ℕ) (i : ℕ) → i ≡ length out → take i out ≡ words i b → out ≡ words (length out) b
+words-all b out i h e = sym (take-length out) ∙ ap (λ (k : ℕ). take k out) (sym h) ∙ e ∙ ap (λ (k : ℕ). words k b) h
+
+-- `text::put`
+pub put-all : (d s : List ℕ) (at i : ℕ) → at + length s ≤ length d → i ≡ length s → Put d (paste d at s i) at (at + i) s
+put-all d s at i h e =
+    record {
+      is = take-paste d at s i (omega arith) (omega arith) ∙ ap (λ (l : List ℕ). take at d ++ l) (ap (λ (k : ℕ). take k s) e ∙ take-length s);
+      count = ap (λ (k : ℕ). at + k) e;
+    }
+
+pub put-one : (d : List ℕ) (at b : ℕ) → at < length d → Put d (set d at b) at (at + 1) (b ∷ [])
+put-one d at b h = record { is = rw (add-one, take-suc-set); count = refl }
+
+-- `io::decimal` writes the digits of the definition
+glyph-digit : (d : ℕ) → d < 10 → glyph d ≡ 48 + d
+glyph-digit d h = simp (lt-ltb _ _ h)
+
+small : (f n : ℕ) → n < 10 → digitsOf f n ≡ (48 + n) ∷ []
+unfolding digitsOf
+small zero n h = refl
+small (suc f) n h = simp (lt-ltb _ _ h)
+
+digits-are : (k n f : ℕ) → n < 10 ^ suc k → (1 < suc k → 10 ^ (suc k - 1) ≤ n) → k ≤ f → digits 10 (suc k) n ≡ digitsOf f n
+unfolding digitsOf
+digits-are zero n f a b c =
+    let m : n % 10 ≡ n = omega arith in
+    ap (λ (d : ℕ). glyph d ∷ []) m ∙ ap (λ (d : ℕ). d ∷ []) (glyph-digit n a) ∙ sym (small f n a)
+digits-are (suc k) n zero a b c = absurd (omega arith)
+digits-are (suc k) n (suc f) a b c =
+    let p : 10 ^ suc (suc k) ≡ 10 ^ suc k * 10 = pow-suc 10 (suc k) in
+    let q : 10 ^ suc k ≡ 10 ^ k * 10 = pow-suc 10 k in
+    let s : suc (suc k) - 1 ≡ suc k = omega arith in
+    let t : suc k - 1 ≡ k = omega arith in
+    let z : 1 ≤ 10 ^ k = one-le-pow k 10 (omega arith) in
+    let l : 10 ^ suc k ≤ n = rw s at (b (omega arith)) in
+    simp (le-ltb n 10 (omega arith))
+    (ap₂ (λ (x : List ℕ) (y : ℕ). x ++ (y ∷ [])) (digits-are k (n / 10) f (omega arith) (λ h. rw t (omega arith)) (omega arith)) (glyph-digit (n % 10) (omega arith)))
+
+pub decimal-is : (n r : ℕ) → Fewest 10 1 n r → r ≤ 20 → digits 10 r n ≡ decimalOf n
+unfolding decimalOf
+decimal-is n zero w h = absurd (omega (arith, w .0))
+decimal-is n (suc k) w h = digits-are k n 19 (w .1) (w .2) (omega arith)
+
+pub decimal-few : (n r : ℕ) → Fewest 10 1 n r → n < 2 ^ 64 → r ≤ 20
+decimal-few n r w h = go (leb r 20) refl
+  where
+    go : (t : Bool) → leb r 20 ≡ t → r ≤ 20
+    go true p = leb-true r 20 p
+    go false p =
+        let q : 20 < r = leb-false r 20 p in
+        let m : 10 ^ 20 ≤ 10 ^ (r - 1) = pow-le-pow-right {n = 10} (lit< tt) {i = 20} {j = r - 1} (omega arith) in
+        let k : 10 ^ (r - 1) ≤ n = w .2 (omega arith) in
+        absurd (omega arith)

@@ -1,0 +1,18 @@
+-- Numbers as decimal text.
+use mathlib.Core.Bool.{cond}
+use mathlib.Core.List.{List, [], _∷_, _++_}
+use Prim.Native.Nat.{ℕ, zero, suc, _+_, _/_, _%_}
+use lib.Dec.{ltb}
+
+-- the ASCII code of a digit: 48 is that of 0
+abbrev pub digit : ℕ → ℕ
+digit d = 48 + d
+
+-- the decimal digits of n, which has at most k + 1 of them, with no zeros in front
+unfoldable pub digitsOf : ℕ → ℕ → List ℕ
+digitsOf zero n = digit n ∷ []
+digitsOf (suc k) n = cond (ltb n 10) (digit n ∷ []) (digitsOf k (n / 10) ++ (digit (n % 10) ∷ []))
+
+-- the decimal digits of a 64-bit number: at most 20
+unfoldable pub decimalOf : ℕ → List ℕ
+decimalOf n = digitsOf 19 n
