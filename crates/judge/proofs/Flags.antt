@@ -15,11 +15,11 @@ use borrow.Author.Called.{Called}
 use Rattle.rulebook.specs.Kind.{ones}
 use Rattle.rulebook.specs.Words.{range}
 use Rattle.rulebook.specs.Plain.{bits, plainFlags, pairPlain}
-use Rattle.judge.specs.Group.{allUpTo}
-use Rattle.judge.proofs.loops.bit.Kinds as bit
-use Rattle.judge.proofs.loops.bit.Reads as bit-reads
-use Rattle.judge.proofs.loops.bits.Kinds as run
-use Rattle.judge.proofs.loops.bits.Reads as run-reads
+use Rattle.judge_kinds.specs.Group.{allUpTo}
+use Rattle.judge_kinds.proofs.loops.bit.Kinds as bit
+use Rattle.judge_kinds.proofs.loops.bit.Reads as bit-reads
+use Rattle.judge_kinds.proofs.loops.bits.Kinds as run
+use Rattle.judge_kinds.proofs.loops.bits.Reads as run-reads
 
 abbrev isBit : ℕ → Bool
 isBit x = eqb x 0 || eqb x 1

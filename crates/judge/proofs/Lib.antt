@@ -1,12 +1,4 @@
-pub mod Rules
-pub mod Counts
-pub mod Cases
-pub mod Unread
-pub mod Picked
-pub mod Spans
-pub mod Parts
-pub mod Words
-pub mod Groups
 pub mod Joins
 pub mod Flags
 pub mod Refused
+pub mod Asked

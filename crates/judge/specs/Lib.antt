@@ -1,3 +1,1 @@
-pub mod Group
-pub mod Selected
 pub mod Verdict

@@ -2,22 +2,15 @@
 ghost use mathlib.Core.Path.{_≡_};
 ghost use Rattle.rulebook.specs.Plain.{pairKeeps};
 ghost use Rattle.judge.specs.Verdict.{Pair, judgeRefusal, verdictOf};
-use context::*;
-use flow::*;
-use instruction::*;
-use opcodes::*;
+use judge_context::*;
+use judge_flow::*;
+use judge_instruction::*;
+use judge_kinds::selected::kind;
+use judge_opcodes::*;
 use plain::plain_flags;
 use refusals::FLAGS_NOT_PLAIN;
-use selected::kind;
 
-pub mod context;
-pub mod flow;
-pub mod instruction;
-pub mod kinds;
-pub mod loops;
-pub mod opcodes;
 pub mod plain;
-pub mod selected;
 
 // What the judge says of a pair, or the number with which the call is turned back.
 pub enum Verdict {

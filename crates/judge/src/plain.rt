@@ -2,9 +2,9 @@
 ghost use mathlib.Core.Path.{_≡_};
 ghost use Rattle.table.specs.Rows.{Rows};
 ghost use Rattle.rulebook.specs.Plain.{pairPlain};
-use super::loops::bit;
-use super::loops::bits;
-use super::loops::ones;
+use judge_kinds::loops::bit;
+use judge_kinds::loops::bits;
+use judge_kinds::loops::ones;
 use table::columns::*;
 
 // IS_EXT_LINE, entry, diff, same are 0 or 1; IS_EXT_LINE' and pad' too; exactly one next selector is 1,

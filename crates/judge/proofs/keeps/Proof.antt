@@ -2,8 +2,12 @@
 use mathlib.Core.Path.{sym, _∙_}
 use denote.Ref.{now}
 use Rattle.table.specs.Rows.{Row, Rows, Masks}
-use Rattle.judge.proofs.Rules.{both}
-use Rattle.judge.proofs.Groups.{groups, coded, of-kind, kind-said}
+use Rattle.judge_kinds.proofs.Rules.{both}
+use Rattle.judge_context.proofs.Groups.{groups as context}
+use Rattle.judge_instruction.proofs.Groups.{groups as instruction}
+use Rattle.judge_flow.proofs.Groups.{groups as flow}
+use Rattle.judge_opcodes.proofs.Groups.{groups as opcodes}
+use Rattle.judge.proofs.Asked.{kindIs, coded, of-kind, kind-said}
 use Rattle.judge.proofs.Joins.{rulebook-joins}
 use Rattle.judge.proofs.keeps.Statement.{statement}
 use Rattle.judge.proofs.keeps.Tie as tie
@@ -18,7 +22,7 @@ masks : (c : tie.Start) → Masks (now (c .args .masks))
 masks c = c .pre .opcodes
 
 returns : tie.Need-returns
-returns c = sym (rulebook-joins _ _ _ _ _ ∙ search (groups, both) depth 100 fits 100000)
+returns c = sym (rulebook-joins _ _ _ _ _ ∙ search (kindIs, context, instruction, flow, opcodes, both) depth 100 fits 100000)
 
 pub keeps-spec : {M : Type 1} → statement M
 keeps-spec = tie.close (search (tie.spec, returns, coded, of-kind, kind-said, rows, local-row, masks))

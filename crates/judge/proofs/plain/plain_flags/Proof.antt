@@ -3,8 +3,8 @@ use mathlib.Core.Path.{sym, _∙_}
 use denote.Ref.{now}
 use Rattle.table.specs.Rows.{Row}
 use Rattle.table.proofs.Rows.{places}
-use Rattle.judge.proofs.Rules.{eqbOf, both}
-use Rattle.judge.proofs.Spans.{onesOf}
+use Rattle.judge_kinds.proofs.Rules.{eqbOf, both}
+use Rattle.judge_kinds.proofs.Spans.{onesOf}
 use Rattle.judge.proofs.Flags.{plain-is, bitOf, selectorsOf}
 use Rattle.judge.proofs.plain.plain_flags.Statement.{statement}
 use Rattle.judge.proofs.plain.plain_flags.Tie as tie

@@ -1,0 +1,5 @@
+pub mod Parts
+pub mod Words
+pub mod Selectors
+pub mod Joins
+pub mod Groups
