@@ -65,119 +65,62 @@ impl Entries for Faithful {
     }
 }
 
-/// Answers as it should but for sums, whose operands it reduces.
-struct Reducing(Faithful);
+/// Answers as it should but for what it was given an answer to.
+struct Impostor<'a> {
+    faithful: Faithful,
+    add: Option<&'a dyn Fn(&Faithful, u64, u64) -> FelmugoResidue>,
+    values: Option<&'a dyn Fn(&Faithful, Call, &mut [u64]) -> u64>,
+    fold: Option<&'a dyn Fn(&Faithful, Call, &[u64], &mut [u64]) -> u64>,
+    judge: Option<&'a dyn Fn(&Faithful, Call) -> FelmugoVerdict>,
+}
 
-impl Entries for Reducing {
-    fn add(&self, a: u64, b: u64) -> FelmugoResidue {
-        self.0.add(a % P, b % P)
-    }
-
-    fn sub(&self, a: u64, b: u64) -> FelmugoResidue {
-        self.0.sub(a, b)
-    }
-
-    fn mul(&self, a: u64, b: u64) -> FelmugoResidue {
-        self.0.mul(a, b)
-    }
-
-    fn pair_values(&self, call: Call, out: &mut [u64]) -> u64 {
-        self.0.pair_values(call, out)
-    }
-
-    fn pair_fold(&self, call: Call, alphas: &[u64], accs: &mut [u64]) -> u64 {
-        self.0.pair_fold(call, alphas, accs)
-    }
-
-    fn pair_judge(&self, call: Call) -> FelmugoVerdict {
-        self.0.pair_judge(call)
+impl Impostor<'_> {
+    fn new(rust: Reference) -> Self {
+        Self {
+            faithful: Faithful(rust),
+            add: None,
+            values: None,
+            fold: None,
+            judge: None,
+        }
     }
 }
 
-/// Answers as it should but for the values of pairs.
-struct Impostor<F>(Faithful, F);
-
-impl<F: Fn(&Faithful, Call, &mut [u64]) -> u64> Entries for Impostor<F> {
+impl Entries for Impostor<'_> {
     fn add(&self, a: u64, b: u64) -> FelmugoResidue {
-        self.0.add(a, b)
+        match self.add {
+            Some(answer) => answer(&self.faithful, a, b),
+            None => self.faithful.add(a, b),
+        }
     }
 
     fn sub(&self, a: u64, b: u64) -> FelmugoResidue {
-        self.0.sub(a, b)
+        self.faithful.sub(a, b)
     }
 
     fn mul(&self, a: u64, b: u64) -> FelmugoResidue {
-        self.0.mul(a, b)
+        self.faithful.mul(a, b)
     }
 
     fn pair_values(&self, call: Call, out: &mut [u64]) -> u64 {
-        self.1(&self.0, call, out)
+        match self.values {
+            Some(answer) => answer(&self.faithful, call, out),
+            None => self.faithful.pair_values(call, out),
+        }
     }
 
     fn pair_fold(&self, call: Call, alphas: &[u64], accs: &mut [u64]) -> u64 {
-        self.0.pair_fold(call, alphas, accs)
+        match self.fold {
+            Some(answer) => answer(&self.faithful, call, alphas, accs),
+            None => self.faithful.pair_fold(call, alphas, accs),
+        }
     }
 
     fn pair_judge(&self, call: Call) -> FelmugoVerdict {
-        self.0.pair_judge(call)
-    }
-}
-
-/// Answers as it should but for verdicts.
-struct Misjudging<F>(Faithful, F);
-
-impl<F: Fn(&Faithful, Call) -> FelmugoVerdict> Entries for Misjudging<F> {
-    fn add(&self, a: u64, b: u64) -> FelmugoResidue {
-        self.0.add(a, b)
-    }
-
-    fn sub(&self, a: u64, b: u64) -> FelmugoResidue {
-        self.0.sub(a, b)
-    }
-
-    fn mul(&self, a: u64, b: u64) -> FelmugoResidue {
-        self.0.mul(a, b)
-    }
-
-    fn pair_values(&self, call: Call, out: &mut [u64]) -> u64 {
-        self.0.pair_values(call, out)
-    }
-
-    fn pair_fold(&self, call: Call, alphas: &[u64], accs: &mut [u64]) -> u64 {
-        self.0.pair_fold(call, alphas, accs)
-    }
-
-    fn pair_judge(&self, call: Call) -> FelmugoVerdict {
-        self.1(&self.0, call)
-    }
-}
-
-/// Answers as it should but for folds.
-struct Misfolding<F>(Faithful, F);
-
-impl<F: Fn(&Faithful, Call, &[u64], &mut [u64]) -> u64> Entries for Misfolding<F> {
-    fn add(&self, a: u64, b: u64) -> FelmugoResidue {
-        self.0.add(a, b)
-    }
-
-    fn sub(&self, a: u64, b: u64) -> FelmugoResidue {
-        self.0.sub(a, b)
-    }
-
-    fn mul(&self, a: u64, b: u64) -> FelmugoResidue {
-        self.0.mul(a, b)
-    }
-
-    fn pair_values(&self, call: Call, out: &mut [u64]) -> u64 {
-        self.0.pair_values(call, out)
-    }
-
-    fn pair_fold(&self, call: Call, alphas: &[u64], accs: &mut [u64]) -> u64 {
-        self.1(&self.0, call, alphas, accs)
-    }
-
-    fn pair_judge(&self, call: Call) -> FelmugoVerdict {
-        self.0.pair_judge(call)
+        match self.judge {
+            Some(answer) => answer(&self.faithful, call),
+            None => self.faithful.pair_judge(call),
+        }
     }
 }
 
@@ -192,28 +135,26 @@ fn compare(entries: &dyn Entries, rust: Reference) -> Tally {
     tally
 }
 
-/// Whether the comparison finds the impostor.
+/// Whether the comparison finds who answers otherwise for values, for folds, or for verdicts.
 fn is_found(answer: impl Fn(&Faithful, Call, &mut [u64]) -> u64) -> bool {
-    let Some(rust) = Reference::find() else {
-        return true;
-    };
-    compare(&Impostor(Faithful(rust), answer), rust).failed() > 0
+    is_impostor_found(|impostor| impostor.values = Some(&answer))
 }
 
-/// Whether the comparison finds who judges otherwise.
-fn is_misjudging_found(answer: impl Fn(&Faithful, Call) -> FelmugoVerdict) -> bool {
-    let Some(rust) = Reference::find() else {
-        return true;
-    };
-    compare(&Misjudging(Faithful(rust), answer), rust).failed() > 0
-}
-
-/// Whether the comparison finds who folds otherwise.
 fn is_misfolding_found(answer: impl Fn(&Faithful, Call, &[u64], &mut [u64]) -> u64) -> bool {
+    is_impostor_found(|impostor| impostor.fold = Some(&answer))
+}
+
+fn is_misjudging_found(answer: impl Fn(&Faithful, Call) -> FelmugoVerdict) -> bool {
+    is_impostor_found(|impostor| impostor.judge = Some(&answer))
+}
+
+fn is_impostor_found<'a>(teach: impl FnOnce(&mut Impostor<'a>)) -> bool {
     let Some(rust) = Reference::find() else {
         return true;
     };
-    compare(&Misfolding(Faithful(rust), answer), rust).failed() > 0
+    let mut impostor = Impostor::new(rust);
+    teach(&mut impostor);
+    compare(&impostor, rust).failed() > 0
 }
 
 #[test]
@@ -228,10 +169,9 @@ fn the_faithful_pass() {
 
 #[test]
 fn a_reduced_operand_is_found() {
-    let Some(rust) = Reference::find() else {
-        return;
-    };
-    assert!(compare(&Reducing(Faithful(rust)), rust).failed() > 0);
+    assert!(is_impostor_found(|impostor| {
+        impostor.add = Some(&|faithful, a, b| faithful.add(a % P, b % P));
+    }));
 }
 
 #[test]
