@@ -1,6 +1,5 @@
 -- A value of one row: the row is turned back, or is as the core asks.
 use mathlib.Core.Path.{_≡_, refl, sym, ap, _∙_}
-use mathlib.Core.Bool.{not}
 use mathlib.Core.List.{List, []}
 use Prim.Native.Nat.{ℕ, zero, suc}
 use borrow.Author.Tests.{not-false}
@@ -9,7 +8,6 @@ use Rattle.refusals.specs.Refusal.{lowest}
 use Rattle.refusals.proofs.Laws.{clear, length-is, canonical-below}
 use Rattle.residue.specs.Residues.{residues}
 use Rattle.residue.specs.Answer.{unless}
-use Rattle.residue.specs.declared.checked.Residue.{Residue}
 use Rattle.residue.specs.declared.checked.Residue.the-variants.{Value, Refused}
 use Rattle.table.specs.Cells.{Cell, cells}
 use Rattle.table.specs.Rows.{Row}

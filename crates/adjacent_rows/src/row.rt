@@ -29,7 +29,7 @@ pub fn is_ext_inst(row: &[u64]) -> Residue
     if number != 0 {
         return Residue::Refused(number);
     }
-    Residue::Value(cpu_context::wrapper::is_ext_inst(row))
+    Residue::Value(cpu_wrapper::wrapper::is_ext_inst(row))
 }
 
 // How many ext lines the row's instruction has.
@@ -40,5 +40,5 @@ pub fn ext_length(row: &[u64]) -> Residue
     if number != 0 {
         return Residue::Refused(number);
     }
-    Residue::Value(cpu_context::wrapper::lv_ext_length(row))
+    Residue::Value(cpu_wrapper::wrapper::lv_ext_length(row))
 }

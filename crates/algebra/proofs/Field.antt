@@ -2,12 +2,11 @@
 -- element, and two numbers to one element exactly where they leave one remainder by p.
 use mathlib.Core.Path.{_≡_, refl, sym, ap, _∙_}
 use mathlib.Core.Logic.{_⊎_, inl, inr}
-use Prim.Native.Nat.{ℕ, _+_, _-_, _*_, _%_, _^_, _<_, _≤_, Fin}
+use Prim.Native.Nat.{ℕ, _+_, _-_, _%_, _^_, _<_, _≤_, Fin}
 use native.Mathlib.Nat.{mod-eq-of-lt, zero-mod, suc-ne-zero, add-sub-of-le}
 use native.Mathlib.Decide.{Fin·val-path, Fin-discrete}
-use native.Mathlib.Omega.{arith}
 use lib.Dec.{lit<}
-use Rattle.algebra.specs.Ring.{Ops, IsRing, IsDomain, sub}
+use Rattle.algebra.specs.Ring.{IsRing, IsDomain}
 use Rattle.algebra.specs.Prime.{IsPrime, p}
 use Rattle.algebra.specs.Modulo.{residue, modulo}
 use Rattle.algebra.specs.Field.{𝔾, val}

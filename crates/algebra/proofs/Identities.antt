@@ -1,7 +1,7 @@
 -- How an identity of a ring is proved. Up to some ten products: `simp (ring-laws, L)`. Any other: `solve`, which computes; the goal is
 -- written out beside two expressions in the same order, under `unfolding eval`.
 use mathlib.Core.Path.{_≡_}
-use mathlib.Core.List.{List, [], _∷_}
+use mathlib.Core.List.{[], _∷_}
 use Rattle.algebra.specs.Ring.{Ops, IsRing}
 use Rattle.algebra.specs.Expr.{var, _⊕_, _⊖_, _⊗_, eval}
 use Rattle.algebra.proofs.Ring.{ring-laws}

@@ -1,10 +1,9 @@
 -- The residues modulo m are a commutative ring.
 use mathlib.Core.Path.{_≡_, refl, sym, ap, _∙_}
-use mathlib.Core.Logic.{_⊎_, inl, inr, _≢_}
-use Prim.Native.Nat.{ℕ, zero, suc, _+_, _-_, _*_, _/_, _%_, _≤_, _<_, Fin}
-use native.Mathlib.Nat.{add-comm, add-assoc, zero-add, mul-comm, mul-assoc, one-mul, mul-add, add-mul, mod-lt, mod-eq-of-lt, mod-mod, mod-add-mod, add-mod-mod, add-mod, mod-self, zero-mod, sub-add-cancel, le-of-lt, div-add-mod, mul-add-mod-self-left, suc-mod}
+use Prim.Native.Nat.{ℕ, zero, _+_, _-_, _*_, _/_, _%_, _<_, Fin}
+use native.Mathlib.Nat.{add-comm, add-assoc, zero-add, mul-comm, mul-assoc, one-mul, mul-add, add-mul, mod-eq-of-lt, mod-add-mod, add-mod-mod, add-mod, mod-self, zero-mod, sub-add-cancel, le-of-lt, div-add-mod, mul-add-mod-self-left}
 use native.Mathlib.Numerals.{suc-eq-add-one}
-use native.Mathlib.Decide.{Fin·val-path, Fin-discrete}
+use native.Mathlib.Decide.{Fin·val-path}
 use Rattle.algebra.specs.Ring.{IsRing}
 use Rattle.algebra.specs.Modulo.{residue, modulo}
 

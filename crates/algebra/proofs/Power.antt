@@ -2,8 +2,8 @@
 use mathlib.Core.Path.{_≡_, refl, sym, ap, _∙_}
 use mathlib.Core.Logic.{_⊎_, inl, inr, _≢_}
 use Prim.Native.Nat as N
-use Prim.Native.Nat.{ℕ, suc, _^_, _/_, _%_, _<_, _≤_}
-use native.Mathlib.Nat.{add-suc as ℕ-add-suc, add-zero as ℕ-add-zero, two-pow-succ, div-add-mod', mod-lt}
+use Prim.Native.Nat.{ℕ, suc, _^_, _/_, _%_, _<_}
+use native.Mathlib.Nat.{add-suc as ℕ-add-suc, add-zero as ℕ-add-zero, two-pow-succ}
 use native.Mathlib.Omega.{arith}
 use native.Mathlib.Decide.{ℕ-discrete}
 use Rattle.algebra.specs.Ring.{Ops, IsRing}

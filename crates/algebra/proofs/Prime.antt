@@ -1,8 +1,8 @@
 -- Euclid's lemma: a prime that divides a product divides one of the factors.
-use mathlib.Core.Path.{_≡_, refl, sym, ap, _∙_}
-use mathlib.Core.Logic.{_⊎_, inl, inr, _≢_}
+use mathlib.Core.Path.{_≡_, _∙_}
+use mathlib.Core.Logic.{_⊎_, inl, inr}
 use Prim.Native.Nat.{ℕ, zero, suc, _+_, _-_, _*_, _/_, _%_, _≤_, _<_, _∣_}
-use native.Mathlib.Nat.{mod-lt, mod-mod, div-add-mod', add-mul, mul-assoc, mul-left-comm, one-mul, not-suc-le-zero, le-trans, pos-of-ne-zero, dvd-add-iff-right, dvd-mul-right, dvd-mul-left-of-dvd, dvd-of-mod-eq-zero, mod-eq-zero-of-dvd}
+use native.Mathlib.Nat.{mod-lt, div-add-mod', add-mul, mul-assoc, one-mul, pos-of-ne-zero, dvd-add-iff-right, dvd-mul-right, dvd-mul-left-of-dvd, dvd-of-mod-eq-zero, mod-eq-zero-of-dvd}
 use native.Mathlib.Omega.{arith}
 use native.Mathlib.Decide.{ℕ-discrete}
 use Rattle.algebra.specs.Prime.{IsPrime}

@@ -1,8 +1,8 @@
 -- Proth's test: p odd and below 4 ^ (k + 1), with a number c whose 2^k-th power modulo p is p - 1, is prime.
-use mathlib.Core.Path.{_≡_, refl, sym, ap, _∙_, subst}
-use mathlib.Core.Logic.{_⊎_, inl, inr, _≢_}
-use Prim.Native.Nat.{ℕ, zero, suc, _+_, _-_, _*_, _/_, _%_, _^_, _≤_, _<_, _∣_, Fin}
-use native.Mathlib.Nat.{mod-lt, mod-mod-of-dvd, two-pow-succ, add-mod, add-mod-mod, mod-add-mod, zero-mod, le-of-dvd, dvd-of-mod-eq-zero, mod-eq-zero-of-dvd, div-mul-cancel, dvd-mul-right, dvd-mul-left, mul-le-mul, le-trans, lt-of-lt-of-le, lt-irrefl}
+use mathlib.Core.Path.{_≡_, sym, ap, _∙_}
+use mathlib.Core.Logic.{_≢_}
+use Prim.Native.Nat.{ℕ, zero, suc, _-_, _*_, _/_, _%_, _^_, _≤_, _<_, _∣_, Fin}
+use native.Mathlib.Nat.{mod-mod-of-dvd, two-pow-succ, add-mod, zero-mod, le-of-dvd, dvd-of-mod-eq-zero, mod-eq-zero-of-dvd, div-mul-cancel, dvd-mul-right, mul-le-mul}
 use native.Mathlib.Omega.{arith}
 use native.Mathlib.Numerals.{one-add}
 use native.Mathlib.Decide.{Fin·val-path}

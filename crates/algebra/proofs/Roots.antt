@@ -6,7 +6,7 @@ use mathlib.Core.List.{List, [], _∷_, _++_}
 use Prim.Native.Nat.{suc, _≤_, _<_}
 use native.Mathlib.Nat.{not-suc-le-zero, le-of-suc-le-suc, lt-of-not-le}
 use lib.ListN.{length}
-use Rattle.algebra.specs.Ring.{Ops, IsRing, IsDomain}
+use Rattle.algebra.specs.Ring.{Ops, IsDomain}
 use Rattle.algebra.specs.Lists.{All, Mem, NoDup}
 use Rattle.algebra.specs.Fold.{fold}
 use Rattle.algebra.proofs.Ring.{ring-laws, zero-mul, zero-add, add-zero, eq-of-sub}

@@ -1,15 +1,16 @@
 -- What a test that a branch asked for tells of the definition that it equals.
-use mathlib.Core.Path.{_≡_, refl, sym, ap, _∙_}
-use mathlib.Core.Bool.{Bool, true, false, not, _||_}
-use mathlib.Core.List.{List, [], _∷_}
-use Prim.Native.Nat.{ℕ, _<_}
-use lib.ListN.{length, getD}
-use lib.Dec.{eqb}
+use mathlib.Core.Path.{_≡_, sym, ap, _∙_}
+use mathlib.Core.Bool.{Bool, true, false, not, _&&_}
+use mathlib.Core.List.{List}
+use Prim.Native.Nat.{ℕ, _+_, _≤_, _<_}
+use native.Mathlib.Omega.{arith}
+use lib.ListN.{length, getD, drop}
+use lib.Dec.{ltb}
 use borrow.Author.Tests.{not-false}
 use Rattle.algebra.specs.Prime.{p}
 use Rattle.refusals.specs.Refusal.{lowest, sizes, contents, canonical}
-use Rattle.refusals.proofs.Laws.{clear, length-is, canonical-below}
-use Rattle.table.specs.Rows.{Row, Rows, Masks}
+use Rattle.refusals.proofs.Laws.{clear, length-is, canonical-below, none-true, canonical-at}
+use Rattle.table.specs.Rows.{Rows, Masks}
 
 -- of a test r of the definition b, denied by `!`
 pub denied : {r b : Bool} → r ≡ b → not r ≡ true → not b ≡ true
@@ -17,10 +18,6 @@ denied e t = ap not (sym e) ∙ t
 
 pub kept : {r b : Bool} → r ≡ b → not r ≡ false → not b ≡ false
 kept e t = ap not (sym e) ∙ t
-
-or-left-false : (a b : Bool) → (a || b) ≡ false → a ≡ false
-or-left-false true b e = e
-or-left-false false b e = refl
 
 -- masks and rows that are not turned back are as the core asks
 module _ (masks lv nv : List ℕ) (s : lowest (sizes masks lv nv) ≡ 0) where
@@ -43,4 +40,16 @@ module _ (masks lv nv : List ℕ) (s : lowest (sizes masks lv nv) ≡ 0) where
     pub masks-are : Masks masks
     masks-are =
         let b = clear (contents masks lv nv) tt k in
-        record { size = masks-length; below = canonical-is masks (or-left-false _ _ (b .0)) }
+        record { size = masks-length; below = canonical-is masks (none-true _ _ (b .0) .0) }
+
+-- four numbers, and those behind them
+pub canonical-four : (a : List ℕ) (i : ℕ) → i + 4 ≤ length a →
+    canonical (drop i a) ≡ (ltb (getD a i 0) p && (ltb (getD a (i + 1) 0) p && (ltb (getD a (i + 2) 0) p && (ltb (getD a (i + 3) 0) p && canonical (drop (i + 4) a)))))
+canonical-four a i h =
+    let e2 : i + 1 + 1 ≡ i + 2 = omega arith in
+    let e3 : i + 2 + 1 ≡ i + 3 = omega arith in
+    let e4 : i + 3 + 1 ≡ i + 4 = omega arith in
+    canonical-at a i (omega arith)
+    ∙ ap (λ (b : Bool). ltb (getD a i 0) p && b) (canonical-at a (i + 1) (omega arith)
+    ∙ rw e2 (ap (λ (b : Bool). ltb (getD a (i + 1) 0) p && b) (canonical-at a (i + 2) (omega arith)
+    ∙ rw e3 (ap (λ (b : Bool). ltb (getD a (i + 2) 0) p && b) (canonical-at a (i + 3) (omega arith) ∙ rw e4)))))

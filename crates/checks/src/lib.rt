@@ -1,8 +1,7 @@
 // Whether a condition of the refusal table holds, of masks and rows that a caller lent.
 ghost use mathlib.Core.Path.{_≡_};
-ghost use mathlib.Core.List.{_++_};
-ghost use lib.ListN.{length, take};
-ghost use Rattle.refusals.specs.Refusal.{lowest, sizes as sizeConditions, contents as contentConditions, canonical as isCanonical, member as isMember, distinct as areDistinct};
+ghost use lib.ListN.{length};
+ghost use Rattle.refusals.specs.Refusal.{lowest, sizes as sizeConditions, contents as contentConditions, maskContents, canonical as isCanonical, member as isMember, distinct as areDistinct};
 use algebra::P;
 use refusals::MASK_CONTENTS;
 use refusals::MASK_COUNT;
@@ -11,8 +10,8 @@ use refusals::ROW_LENGTH;
 use table::columns::NUM_CPU_COLS;
 use table::masks::NUM_MASKS;
 
-// Every number is below p.
-pub fn canonical(a: &[u64]) -> bool
+// Every number is below p, one after the other.
+fn canonical_each(a: &[u64]) -> bool
     ensures { λ r. ⌜ r ≡ isCanonical (now (a .entry)) ⌝ }
 {
     let mut i = 0;
@@ -23,6 +22,31 @@ pub fn canonical(a: &[u64]) -> bool
         i += 1;
     }
     true
+}
+
+// Every number is below p: in fours, and then those that are left. Most of what an entry tests is this, of two
+// rows, and four tests a turn take half the time of one.
+pub fn canonical(a: &[u64]) -> bool
+    ensures { λ r. ⌜ r ≡ isCanonical (now (a .entry)) ⌝ }
+{
+    let n = a.len();
+    let mut i = 0;
+    while n - i >= 4 {
+        if a[i] >= P {
+            return false;
+        }
+        if a[i + 1] >= P {
+            return false;
+        }
+        if a[i + 2] >= P {
+            return false;
+        }
+        if a[i + 3] >= P {
+            return false;
+        }
+        i += 4;
+    }
+    canonical_each(&a[i..])
 }
 
 // x is among the numbers.
@@ -68,6 +92,17 @@ pub fn sizes(masks: &[u64], lv: &[u64], nv: &[u64]) -> u64
         return MASK_COUNT;
     }
     0
+}
+
+// A mask is not below p, or two of the first five are equal.
+pub fn mask_contents(masks: &[u64]) -> bool
+    requires { ⌜ length (now masks) ≡ 25 ⌝ }
+    ensures { λ r. ⌜ r ≡ maskContents (now (masks .entry)) .holds ⌝ }
+{
+    if !canonical(masks) {
+        return true;
+    }
+    !distinct(&masks[0..5])
 }
 
 // The number with which the contents of the masks and of a pair of rows are turned back; 0 where they are not.

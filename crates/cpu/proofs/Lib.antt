@@ -1,3 +1,2 @@
-pub mod Lengths
-pub mod Joined
 pub mod Whole
+pub mod Buffer

@@ -11,7 +11,7 @@ use borrow.Table.Typed.{Mo}
 use borrow.Author.Called.{Called}
 use Rattle.algebra.specs.Expr.{eval}
 use Rattle.residue.specs.Residues.{residues}
-use Rattle.table.specs.Cells.{Cell, cells}
+use Rattle.table.specs.Cells.{cells}
 use Rattle.table.specs.Entry.{Entry, values, each, plusAll}
 use Rattle.table.specs.CpuStark.{constraint-wrapper-cols, lv-ext-length, constraint-tx-init, tx-init-first-line-head, tx-init-first-line-regs, tx-init-each-tx-head, tx-init-each-tx-regs, eval-packed-generic-body, body-tx-idx, body-ctx-regs, body-filter-imm, constraint-ext-lines, ext-lines-counts, ext-lines-opcode, ext-lines-selectors, ext-lines-op1-imm, lv-is-ext-inst, nv-is-ext-inst, constraint-env-idx, constraint-opcode-selector, opcode-products, opcode-selectors-binary, opcode-sums, sum-s-op, cal-opcode, constraint-instruction-encode, plusShifted, constraint-operands-mathches-registers, selectors-binary, operand-sums, selector-sum, selected, selected-next, constraint-env-unchanged-clk, constraint-env-unchanged-pc, instruction-size, pc-next, constraint-reg-consistency, dst-reg-changes, fp-consistency, multi-reg-change, instruction as instruction-word}
 use Rattle.table.specs.SimpleArithmaticOp.{simple-arithmatic-op, is-op}
@@ -19,16 +19,19 @@ use Rattle.table.specs.Tape.{tape, tape-ext-lines, tape-first-ext-line, tape-tp
 use Rattle.table.specs.CallSc.{call-sc, call-sc-addresses, call-sc-operands, call-sc-cleared-head, call-sc-cleared-regs, call-sc-ctx-regs, call-sc-end, call-sc-filters}
 use Rattle.table.specs.Table.{table}
 use Rattle.parts.specs.Parts.{write}
-use Rattle.cpu.specs.Stages.{context, instruction, flow, opcodes}
-use Rattle.cpu.proofs.Joined.{joined}
-use Rattle.cpu.proofs.stages.eval_context.Kinds as context-call
-use Rattle.cpu.proofs.stages.eval_context.Reads as context-reads
-use Rattle.cpu.proofs.stages.eval_instruction.Kinds as instruction-call
-use Rattle.cpu.proofs.stages.eval_instruction.Reads as instruction-reads
-use Rattle.cpu.proofs.stages.eval_flow.Kinds as flow-call
-use Rattle.cpu.proofs.stages.eval_flow.Reads as flow-reads
-use Rattle.cpu.proofs.stages.eval_opcodes.Kinds as opcodes-call
-use Rattle.cpu.proofs.stages.eval_opcodes.Reads as opcodes-reads
+use Rattle.parts.proofs.Written.{joined}
+use Rattle.stage_context.specs.Stage.{context}
+use Rattle.stage_instruction.specs.Stage.{instruction}
+use Rattle.stage_flow.specs.Stage.{flow}
+use Rattle.stage_opcodes.specs.Stage.{opcodes}
+use Rattle.stage_context.proofs.eval_context.Kinds as context-call
+use Rattle.stage_context.proofs.eval_context.Reads as context-reads
+use Rattle.stage_instruction.proofs.eval_instruction.Kinds as instruction-call
+use Rattle.stage_instruction.proofs.eval_instruction.Reads as instruction-reads
+use Rattle.stage_flow.proofs.eval_flow.Kinds as flow-call
+use Rattle.stage_flow.proofs.eval_flow.Reads as flow-reads
+use Rattle.stage_opcodes.proofs.eval_opcodes.Kinds as opcodes-call
+use Rattle.stage_opcodes.proofs.eval_opcodes.Reads as opcodes-reads
 
 -- the table is its stages
 pub table-is : table ≡ context ++ instruction ++ flow ++ opcodes

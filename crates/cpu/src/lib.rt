@@ -1,5 +1,2 @@
 // The evaluation of a pair of rows: every group of the table, written to a buffer one after the other.
-pub mod call_sc;
-pub mod cpu_stark;
 pub mod stages;
-pub mod tape;

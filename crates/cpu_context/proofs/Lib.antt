@@ -1,3 +1,1 @@
-pub mod Laws
-pub mod Calls
 pub mod Groups

@@ -1,7 +1,4 @@
-// The constraint functions of cpu_stark.rs, groups A to E: the row's wrapper, the start of a transaction,
-// the body of eval_packed_generic, ext lines, and the environment's number.
+// The constraints of the context from a row to the next: the body of eval_packed_generic (C), and the
+// environment's number (E).
 pub mod body;
 pub mod env_idx;
-pub mod ext_lines;
-pub mod tx_init;
-pub mod wrapper;

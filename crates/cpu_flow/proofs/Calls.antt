@@ -11,13 +11,11 @@ use Rattle.algebra.specs.Prime.{p}
 use Rattle.algebra.specs.Expr.{eval}
 use Rattle.residue.specs.Residues.{residues}
 use Rattle.table.specs.Cells.{cells}
-use Rattle.table.specs.CpuStark.{instruction-size, pc-next, multi-reg-change}
+use Rattle.table.specs.CpuStark.{instruction-size, pc-next}
 use Rattle.cpu_flow.proofs.env_unchanged.instruction_size.Kinds as size
 use Rattle.cpu_flow.proofs.env_unchanged.instruction_size.Reads as size-reads
 use Rattle.cpu_flow.proofs.env_unchanged.pc_next.Kinds as pc
 use Rattle.cpu_flow.proofs.env_unchanged.pc_next.Reads as pc-reads
-use Rattle.cpu_flow.proofs.reg_consistency.multi_reg_change.Kinds as multi
-use Rattle.cpu_flow.proofs.reg_consistency.multi_reg_change.Reads as multi-reads
 
 module _ {Γ : Cx} {u : Mo Γ} where
   module _ {ar : ArgsT size.ps (Γ .locals)} (k : Called size.ps size.r size-reads.Learnt Γ ar u) where
@@ -37,12 +35,3 @@ module _ {Γ : Cx} {u : Mo Γ} where
 
     pub pc-next-below : k .result < p
     pc-next-below = k .ensures .1
-
-  module _ {ar : ArgsT multi.ps (Γ .locals)} (k : Called multi.ps multi.r multi-reads.Learnt Γ ar u) where
-    pub multiRegChangeOf : (m lv nv : List ℕ) (z f : ℕ) → lv ≡ now (argsV (k .lifetimes) multi.ps (Γ .locals) ar u .0) →
-        eval residues (cells m lv nv z f) multi-reg-change ≡ k .result
-    unfolding eval multi-reg-change
-    multiRegChangeOf m lv nv z f e = rw e (sym (k .ensures .0))
-
-    pub multi-reg-change-below : k .result < p
-    multi-reg-change-below = k .ensures .1

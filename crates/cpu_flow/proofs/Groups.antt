@@ -10,16 +10,12 @@ use borrow.Author.Called.{Called}
 use Rattle.algebra.specs.Expr.{eval}
 use Rattle.residue.specs.Residues.{residues}
 use Rattle.table.specs.Cells.{cells}
-use Rattle.table.specs.Entry.{values, each}
-use Rattle.table.specs.CpuStark.{constraint-env-unchanged-clk, instruction-size, pc-next, constraint-env-unchanged-pc, multi-reg-change, dst-reg-changes, fp-consistency}
+use Rattle.table.specs.Entry.{values}
+use Rattle.table.specs.CpuStark.{constraint-env-unchanged-clk, instruction-size, pc-next, constraint-env-unchanged-pc}
 use Rattle.cpu_flow.proofs.env_unchanged.constraint_env_unchanged_clk.Kinds as clk
 use Rattle.cpu_flow.proofs.env_unchanged.constraint_env_unchanged_clk.Reads as clk-reads
 use Rattle.cpu_flow.proofs.env_unchanged.constraint_env_unchanged_pc.Kinds as pc
 use Rattle.cpu_flow.proofs.env_unchanged.constraint_env_unchanged_pc.Reads as pc-reads
-use Rattle.cpu_flow.proofs.reg_consistency.dst_reg_changes.Kinds as dst
-use Rattle.cpu_flow.proofs.reg_consistency.dst_reg_changes.Reads as dst-reads
-use Rattle.cpu_flow.proofs.reg_consistency.fp_consistency.Kinds as fp
-use Rattle.cpu_flow.proofs.reg_consistency.fp_consistency.Reads as fp-reads
 
 module _ {Γ : Cx} {u : Mo Γ} (m lv nv : List ℕ) (z f : ℕ) where
   pub clkOf : {ar : ArgsT clk.ps (Γ .locals)} (k : Called clk.ps clk.r clk-reads.Learnt Γ ar u) →
@@ -36,20 +32,4 @@ module _ {Γ : Cx} {u : Mo Γ} (m lv nv : List ℕ) (z f : ℕ) where
   unfolding eval values instruction-size pc-next constraint-env-unchanged-pc
   pcOf k a b = rw (a, b) (sym (k .ensures))
 
-  pub dstRegChangesOf : {ar : ArgsT dst.ps (Γ .locals)} (k : Called dst.ps dst.r dst-reads.Learnt Γ ar u) →
-      lv ≡ now (argsV (k .lifetimes) dst.ps (Γ .locals) ar u .0) →
-      nv ≡ now (argsV (k .lifetimes) dst.ps (Γ .locals) ar u .1 .0) →
-      z ≡ argsV (k .lifetimes) dst.ps (Γ .locals) ar u .1 .1 .0 →
-      values residues (cells m lv nv z f) dst-reg-changes ≡ k .result
-  unfolding eval values each multi-reg-change dst-reg-changes
-  dstRegChangesOf k a b c = rw (a, b, c) (sym (k .ensures))
-
-  pub fpConsistencyOf : {ar : ArgsT fp.ps (Γ .locals)} (k : Called fp.ps fp.r fp-reads.Learnt Γ ar u) →
-      lv ≡ now (argsV (k .lifetimes) fp.ps (Γ .locals) ar u .0) →
-      nv ≡ now (argsV (k .lifetimes) fp.ps (Γ .locals) ar u .1 .0) →
-      z ≡ argsV (k .lifetimes) fp.ps (Γ .locals) ar u .1 .1 .0 →
-      values residues (cells m lv nv z f) fp-consistency ≡ k .result
-  unfolding eval values fp-consistency
-  fpConsistencyOf k a b c = rw (a, b, c) (sym (k .ensures))
-
-pub ruleset groups = (clkOf, pcOf, dstRegChangesOf, fpConsistencyOf)
+pub ruleset groups = (clkOf, pcOf)

@@ -12,6 +12,9 @@ ghost use Rattle.table.specs.CpuStark.{constraint-env-unchanged-clk, instructio
 use residue::below::add;
 use residue::below::sub;
 use residue::mul;
+use sums::plus_product;
+use sums::product;
+use sums::reduced;
 use table::columns::*;
 
 // 145 and 146 (I)
@@ -45,10 +48,8 @@ pub fn instruction_size(lv: &[u64]) -> u64
 {
     let s_mload = lv[COL_S_MLOAD];
     let s_mstore = lv[COL_S_MSTORE];
-    add(
-        mul(sub(sub(1, s_mload), s_mstore), add(1, lv[COL_OP1_IMM])),
-        mul(add(s_mload, s_mstore), 2),
-    )
+    let plain = product(sub(sub(1, s_mload), s_mstore), add(1, lv[COL_OP1_IMM]));
+    reduced(plus_product(plain, add(s_mload, s_mstore), 2))
 }
 
 // Where the program counter goes from this row.
@@ -64,15 +65,15 @@ pub fn pc_next(lv: &[u64]) -> u64
     let op0 = lv[COL_OP0];
     let op1 = lv[COL_OP1];
     let pc_behind = add(lv[COL_PC], instruction_size(lv));
-    let pc_incr = mul(
+    let pc_incr = product(
         sub(1, add(add(add(s_jmp, s_cjmp), s_call), s_ret)),
         pc_behind,
     );
-    let pc_jmp = mul(s_jmp, op1);
-    let pc_cjmp = mul(s_cjmp, add(mul(sub(1, op0), pc_behind), mul(op0, op1)));
-    let pc_call = mul(s_call, op1);
-    let pc_ret = mul(s_ret, lv[COL_DST]);
-    add(add(add(add(pc_incr, pc_jmp), pc_cjmp), pc_call), pc_ret)
+    let cjmp_target = reduced(plus_product(product(sub(1, op0), pc_behind), op0, op1));
+    let with_jmp = plus_product(pc_incr, s_jmp, op1);
+    let with_cjmp = plus_product(with_jmp, s_cjmp, cjmp_target);
+    let with_call = plus_product(with_cjmp, s_call, op1);
+    reduced(plus_product(with_call, s_ret, lv[COL_DST]))
 }
 
 // 147 to 149 (J)

@@ -11,13 +11,7 @@ use Rattle.algebra.specs.Expr.{eval}
 use Rattle.residue.specs.Residues.{residues}
 use Rattle.table.specs.Cells.{cells}
 use Rattle.table.specs.Entry.{values, plusAll, each}
-use Rattle.table.specs.CpuStark.{opcode-products, opcode-selectors-binary, sum-s-op, cal-opcode, opcode-sums, plusShifted, instruction, constraint-instruction-encode, selectors-binary, selector-sum, selected, selected-next, operand-sums}
-use Rattle.cpu_instruction.proofs.selectors.opcode_products.Kinds as opcode-products
-use Rattle.cpu_instruction.proofs.selectors.opcode_products.Reads as opcode-products-reads
-use Rattle.cpu_instruction.proofs.selectors.opcode_selectors_binary.Kinds as opcode-selectors-binary
-use Rattle.cpu_instruction.proofs.selectors.opcode_selectors_binary.Reads as opcode-selectors-binary-reads
-use Rattle.cpu_instruction.proofs.selectors.opcode_sums.Kinds as opcode-sums
-use Rattle.cpu_instruction.proofs.selectors.opcode_sums.Reads as opcode-sums-reads
+use Rattle.table.specs.CpuStark.{plusShifted, instruction, constraint-instruction-encode, selectors-binary, selector-sum, selected, selected-next, operand-sums}
 use Rattle.cpu_instruction.proofs.encode.constraint_instruction_encode.Kinds as encode
 use Rattle.cpu_instruction.proofs.encode.constraint_instruction_encode.Reads as encode-reads
 use Rattle.cpu_instruction.proofs.operands.selectors_binary.Kinds as selectors-binary
@@ -26,26 +20,6 @@ use Rattle.cpu_instruction.proofs.operands.operand_sums.Kinds as operan
 use Rattle.cpu_instruction.proofs.operands.operand_sums.Reads as operand-sums-reads
 
 module _ {Γ : Cx} {u : Mo Γ} (m l n : List ℕ) (z f : ℕ) where
-  pub opcodeProductsOf : {ar : ArgsT opcode-products.ps (Γ .locals)} (k : Called opcode-products.ps opcode-products.r opcode-products-reads.Learnt Γ ar u) →
-      l ≡ now (argsV (k .lifetimes) opcode-products.ps (Γ .locals) ar u .0) →
-      m ≡ now (argsV (k .lifetimes) opcode-products.ps (Γ .locals) ar u .1 .0) →
-      values residues (cells m l n z f) opcode-products ≡ k .result
-  unfolding eval values opcode-products
-  opcodeProductsOf k p q = rw (p, q) (sym (k .ensures))
-
-  pub opcodeSelectorsBinaryOf : {ar : ArgsT opcode-selectors-binary.ps (Γ .locals)} (k : Called opcode-selectors-binary.ps opcode-selectors-binary.r opcode-selectors-binary-reads.Learnt Γ ar u) →
-      l ≡ now (argsV (k .lifetimes) opcode-selectors-binary.ps (Γ .locals) ar u .0) →
-      values residues (cells m l n z f) opcode-selectors-binary ≡ k .result
-  unfolding eval values each opcode-selectors-binary
-  opcodeSelectorsBinaryOf k p = rw p (sym (k .ensures))
-
-  pub opcodeSumsOf : {ar : ArgsT opcode-sums.ps (Γ .locals)} (k : Called opcode-sums.ps opcode-sums.r opcode-sums-reads.Learnt Γ ar u) →
-      l ≡ now (argsV (k .lifetimes) opcode-sums.ps (Γ .locals) ar u .0) →
-      m ≡ now (argsV (k .lifetimes) opcode-sums.ps (Γ .locals) ar u .1 .0) →
-      values residues (cells m l n z f) opcode-sums ≡ k .result
-  unfolding eval values plusAll sum-s-op cal-opcode opcode-sums
-  opcodeSumsOf k p q = rw (p, q) (sym (k .ensures))
-
   pub constraintInstructionEncodeOf : {ar : ArgsT encode.ps (Γ .locals)} (k : Called encode.ps encode.r encode-reads.Learnt Γ ar u) →
       l ≡ now (argsV (k .lifetimes) encode.ps (Γ .locals) ar u .0) →
       values residues (cells m l n z f) constraint-instruction-encode ≡ k .result
@@ -66,4 +40,4 @@ module _ {Γ : Cx} {u : Mo Γ} (m l n : List ℕ) (z f : ℕ) where
   unfolding eval values plusAll selector-sum selected selected-next operand-sums
   operandSumsOf k p q = rw (p, q) (sym (k .ensures))
 
-pub ruleset groups = (opcodeProductsOf, opcodeSelectorsBinaryOf, opcodeSumsOf, constraintInstructionEncodeOf, selectorsBinaryOf, operandSumsOf)
+pub ruleset groups = (constraintInstructionEncodeOf, selectorsBinaryOf, operandSumsOf)

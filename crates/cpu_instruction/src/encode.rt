@@ -9,11 +9,13 @@ ghost use Rattle.table.specs.Rows.{Row};
 ghost use Rattle.table.specs.Cells.{cells};
 ghost use Rattle.table.specs.Entry.{values};
 ghost use Rattle.table.specs.CpuStark.{instruction, constraint-instruction-encode};
-use super::loops::plus_shifted;
-use super::loops::pow2;
 use residue::below::add;
 use residue::below::sub;
 use residue::mul;
+use row_sums::plus_shifted;
+use row_sums::pow2;
+use sums::product;
+use sums::reduced;
 use table::columns::*;
 
 // Its constants are the places of the instruction word.
@@ -38,12 +40,12 @@ pub fn instruction(lv: &[u64]) -> u64
     let s_op0s = &lv[COL_S_OP0_START..COL_S_OP0_END];
     let s_op1s = &lv[COL_S_OP1_START..COL_S_OP1_END];
     let s_dsts = &lv[COL_S_DST_START..COL_S_DST_END];
-    let op1_imm = mul(lv[COL_OP1_IMM], pow2(CpuStark::OP1_IMM_SHIFT));
+    let op1_imm = product(lv[COL_OP1_IMM], pow2(CpuStark::OP1_IMM_SHIFT));
     // From the high bits down, the order of each group is r9, r8, .. r0.
     let with_op0 = plus_shifted(op1_imm, s_op0s, CpuStark::OP0_SHIFT_START);
     let with_op1 = plus_shifted(with_op0, s_op1s, CpuStark::OP1_SHIFT_START);
     let with_dst = plus_shifted(with_op1, s_dsts, CpuStark::DST_SHIFT_START);
-    add(with_dst, lv[COL_OPCODE])
+    add(reduced(with_dst), lv[COL_OPCODE])
 }
 
 // The instruction word is what the columns encode, and an immediate operand is the immediate value.

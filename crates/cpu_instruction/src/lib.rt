@@ -1,5 +1,3 @@
-// The constraints of the instruction: its opcode's selectors, its encoding, and its operands.
+// The constraints of the instruction: its encoding (G) and its operands (H).
 pub mod encode;
-pub mod loops;
 pub mod operands;
-pub mod selectors;

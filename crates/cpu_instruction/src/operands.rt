@@ -9,10 +9,11 @@ ghost use Rattle.table.specs.Rows.{Row, Rows};
 ghost use Rattle.table.specs.Cells.{cells};
 ghost use Rattle.table.specs.Entry.{values};
 ghost use Rattle.table.specs.CpuStark.{selectors-binary, operand-sums};
-use super::loops::plus_products;
-use super::loops::sum;
+use residue::below::one_minus;
 use residue::below::sub;
 use residue::mul;
+use row_sums::plus_products;
+use row_sums::sum;
 use table::columns::*;
 
 // The ten selectors from column `start` on should be binary. (only used as selector in main line)
@@ -25,7 +26,7 @@ pub fn selectors_binary(lv: &[u64], start: usize) -> [u64; REGISTER_NUM]
     let main_line = sub(1, lv[COL_IS_EXT_LINE]);
     let mut out = [0u64; REGISTER_NUM];
     for i in 0..REGISTER_NUM {
-        out[i] = mul(mul(main_line, selectors[i]), sub(1, selectors[i]));
+        out[i] = mul(mul(main_line, selectors[i]), one_minus(selectors[i]));
     }
     out
 }

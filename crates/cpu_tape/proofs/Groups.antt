@@ -11,15 +11,11 @@ use Rattle.algebra.specs.Expr.{eval}
 use Rattle.residue.specs.Residues.{residues}
 use Rattle.table.specs.Cells.{cells}
 use Rattle.table.specs.Entry.{values}
-use Rattle.table.specs.Tape.{tape-ext-lines, tape-first-ext-line, tape-tp, tape-filter}
+use Rattle.table.specs.Tape.{tape-ext-lines, tape-first-ext-line}
 use Rattle.cpu_tape.proofs.tape.tape_ext_lines.Kinds as ext
 use Rattle.cpu_tape.proofs.tape.tape_ext_lines.Reads as ext-reads
 use Rattle.cpu_tape.proofs.tape.tape_first_ext_line.Kinds as first
 use Rattle.cpu_tape.proofs.tape.tape_first_ext_line.Reads as first-reads
-use Rattle.cpu_tape.proofs.tape.tape_tp.Kinds as tp
-use Rattle.cpu_tape.proofs.tape.tape_tp.Reads as tp-reads
-use Rattle.cpu_tape.proofs.tape.tape_filter.Kinds as filter
-use Rattle.cpu_tape.proofs.tape.tape_filter.Reads as filter-reads
 
 module _ {Γ : Cx} {u : Mo Γ} (m lv nv : List ℕ) (z f : ℕ) where
   pub tapeExtLinesOf : {ar : ArgsT ext.ps (Γ .locals)} (k : Called ext.ps ext.r ext-reads.Learnt Γ ar u) →
@@ -36,17 +32,4 @@ module _ {Γ : Cx} {u : Mo Γ} (m lv nv : List ℕ) (z f : ℕ) where
   unfolding eval values tape-first-ext-line
   tapeFirstExtLineOf k a b = rw (a, b) (sym (k .ensures))
 
-  pub tapeTpOf : {ar : ArgsT tp.ps (Γ .locals)} (k : Called tp.ps tp.r tp-reads.Learnt Γ ar u) →
-      lv ≡ now (argsV (k .lifetimes) tp.ps (Γ .locals) ar u .0) →
-      nv ≡ now (argsV (k .lifetimes) tp.ps (Γ .locals) ar u .1 .0) →
-      values residues (cells m lv nv z f) tape-tp ≡ k .result
-  unfolding eval values tape-tp
-  tapeTpOf k a b = rw (a, b) (sym (k .ensures))
-
-  pub tapeFilterOf : {ar : ArgsT filter.ps (Γ .locals)} (k : Called filter.ps filter.r filter-reads.Learnt Γ ar u) →
-      lv ≡ now (argsV (k .lifetimes) filter.ps (Γ .locals) ar u .0) →
-      values residues (cells m lv nv z f) tape-filter ≡ k .result
-  unfolding eval values tape-filter
-  tapeFilterOf k a = rw a (sym (k .ensures))
-
-pub ruleset groups = (tapeExtLinesOf, tapeFirstExtLineOf, tapeTpOf, tapeFilterOf)
+pub ruleset groups = (tapeExtLinesOf, tapeFirstExtLineOf)

@@ -1,4 +1,1 @@
-pub mod Joins
-pub mod Flags
 pub mod Refused
-pub mod Asked

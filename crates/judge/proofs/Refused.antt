@@ -8,8 +8,9 @@ use Rattle.refusals.specs.Refusal.{Condition, lowest, sizes, contents, flagsNot
 use Rattle.refusals.proofs.Laws.{Clear, clear, before, behind}
 use Rattle.checks.proofs.Laws.{rows-are, masks-are}
 use Rattle.rulebook.specs.Plain.{pairPlain, pairKeeps}
+use Rattle.judge_rules.specs.Pair.{Pair}
 use Rattle.judge.specs.declared.Verdict.the-variants.{Keeps, Breaks, Refused}
-use Rattle.judge.specs.Verdict.{number, keepsOf, judgeRefusal, unless, verdictOf, Pair}
+use Rattle.judge.specs.Verdict.{number, keepsOf, judgeRefusal, unless, verdictOf}
 
 -- of conditions none of which holds, neither the first ones nor the others do
 clear-front : (cs ds : List Condition) → Clear (cs ++ ds) → Clear cs

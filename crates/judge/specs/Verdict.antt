@@ -3,7 +3,6 @@ use mathlib.Core.Bool.{Bool, cond}
 use mathlib.Core.List.{List, [], _∷_, _++_}
 use Prim.Native.Nat.{ℕ, zero, suc}
 use Rattle.refusals.specs.Refusal.{lowest, sizes, contents, flagsNotPlain}
-use Rattle.table.specs.Rows.{Rows, Masks}
 use Rattle.rulebook.specs.Plain.{pairKeeps, pairPlain}
 use Rattle.judge.specs.declared.Verdict.{Verdict}
 use Rattle.judge.specs.declared.Verdict.the-variants.{Keeps, Breaks, Refused}
@@ -31,8 +30,3 @@ unless (suc n) b = Refused (suc n)
 -- "The judge answers "keeps" exactly if the pair keeps every rule for such a row, else "breaks"."
 unfoldable pub verdictOf : List ℕ → List ℕ → List ℕ → Bool → Bool → Verdict
 verdictOf masks lv nv first last = unless (judgeRefusal masks lv nv) (pairKeeps masks lv nv first last)
-
--- masks and rows that are not turned back
-pub record Pair (masks lv nv : List ℕ) : Type 0 where
-  pub rows : Rows lv nv
-  pub opcodes : Masks masks

@@ -7,8 +7,8 @@ use Rattle.algebra.specs.Expr.{eval}
 use Rattle.table.specs.Cells.{cells, lv, nv}
 use Rattle.rulebook.specs.Rule.{holds, keepsSentence, keepsAll}
 use Rattle.rulebook.specs.Rulebook.{operand-rules, rules-H}
-use Rattle.judge_kinds.specs.Group.{keepsRules}
-use Rattle.judge_kinds.proofs.Rules.{keeps-joined, both}
+use Rattle.judge_columns.specs.Group.{keepsRules}
+use Rattle.judge_columns.proofs.Rules.{keeps-joined, both}
 
 module _ (l n : List ℕ) {a b : Bool} where
   pub operands-join : {c : Bool} →

@@ -10,12 +10,12 @@ ghost use Rattle.table.specs.Columns.{COL-OP0, COL-OP1, COL-DST, COL-S-OP0-STAR
 ghost use Rattle.table.specs.Cells.{cells, lv as lvOf, nv as nvOf};
 ghost use Rattle.table.specs.Rows.{Row, Rows};
 ghost use Rattle.rulebook.specs.Rulebook.{word-part, operand-rules, rules-F, rules-G, rules-H};
+ghost use Rattle.judge_columns.specs.Group.{keepsRules};
 ghost use Rattle.judge_kinds.specs.Selected.{OfKind};
-ghost use Rattle.judge_kinds.specs.Group.{keepsRules};
 ghost use Rattle.judge_instruction.specs.Part.{WordPart};
-use judge_kinds::loops::bits;
-use judge_kinds::loops::chosen;
-use judge_kinds::loops::ones;
+use judge_columns::bits;
+use judge_columns::chosen;
+use judge_columns::ones;
 use judge_kinds::selected::has_opcode;
 use residue::below::add;
 use residue::mul;

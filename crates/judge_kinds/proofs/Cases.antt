@@ -20,7 +20,7 @@ use Rattle.rulebook.specs.Kind.{MOV, JMP, CJMP, CALL, RET, MLOAD, MSTORE, END, 
 use Rattle.rulebook.specs.Words.{DIFF, on, main}
 use Rattle.rulebook.specs.Rulebook.{ext-kinds, ext-length, size, goes-on}
 use Rattle.judge_kinds.specs.Selected.{opcode-of, registers-free, fp-free}
-use Rattle.judge_kinds.proofs.Rules.{equalOf}
+use Rattle.judge_columns.proofs.Rules.{equalOf}
 
 -- P of each of a, a + 1, .., n of them, shown one by one
 abbrev Each : (ℕ → Type 0) → ℕ → ℕ → Type 0

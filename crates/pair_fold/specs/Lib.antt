@@ -1,2 +1,1 @@
 pub mod PairFold
-pub mod ManyFold

@@ -1,12 +1,12 @@
 -- Laws of the refusal table: conditions one after the other, and what is known where none holds.
 use mathlib.Core.Path.{_≡_, refl, sym, ap, _∙_}
-use mathlib.Core.Bool.{Bool, true, false, cond, not, _&&_, _||_}
+use mathlib.Core.Bool.{Bool, true, false, cond, not, _&&_, _||_, and-assoc}
 use mathlib.Core.List.{List, [], _∷_, _++_}
 use Prim.Native.Nat.{ℕ, zero, suc, _+_, _-_, _<_, _≤_}
 use native.Mathlib.Numerals.{add-one}
 use native.Mathlib.Nat.{le-refl}
 use native.Mathlib.Omega.{arith}
-use lib.ListN.{length, getD, take, drop, drop-of-length-le, length-drop}
+use lib.ListN.{length, getD, take, drop, drop-of-length-le, length-drop, take-append-drop}
 use lib.Seq.{drop-cons, take-all}
 use lib.Dec.{T, eqb, ltb, ltb→lt, lit<}
 use borrow.Author.Tests.{eqb-true, not-false, ltb-true}
@@ -57,11 +57,30 @@ before (c ∷ cs) ds n e h = before-first (c .holds) n (c .number) (lowest cs) (
 pub length-is : (n k : ℕ) → not (eqb n k) ≡ false → n ≡ k
 length-is n k e = eqb-true n k (not-false (eqb n k) e)
 
--- canonical numbers are below p, at every place
-both-true : (a b : Bool) → (a && b) ≡ true → (a ≡ true) × (b ≡ true)
+-- of two tests: both hold, or none does
+pub both-true : (a b : Bool) → (a && b) ≡ true → (a ≡ true) × (b ≡ true)
 both-true true b e = (refl, e)
 both-true false b e = absurd (let z : _≡_ {A = ℕ} 0 1 = cc in omega arith)
 
+pub none-true : (a b : Bool) → (a || b) ≡ false → (a ≡ false) × (b ≡ false)
+none-true true b e = absurd (let z : _≡_ {A = ℕ} 0 1 = cc in omega arith)
+none-true false b e = (refl, e)
+
+-- canonical lists, one behind the other
+pub canonical-append : (a b : List ℕ) → canonical (a ++ b) ≡ (canonical a && canonical b)
+unfolding canonical
+canonical-append [] b = refl
+canonical-append (x ∷ a) b =
+    ap (λ (k : Bool). ltb x p && k) (canonical-append a b) ∙ sym (and-assoc (ltb x p) (canonical a) (canonical b))
+
+-- a part of canonical numbers is canonical
+halves : (n : ℕ) (l : List ℕ) → canonical l ≡ true → (canonical (take n l) ≡ true) × (canonical (drop n l) ≡ true)
+halves n l e = both-true _ _ (sym (canonical-append (take n l) (drop n l)) ∙ ap canonical (take-append-drop n l) ∙ e)
+
+pub canonical-part : (k n : ℕ) (l : List ℕ) → canonical l ≡ true → canonical (take n (drop k l)) ≡ true
+canonical-part k n l e = halves n (drop k l) (halves k l e .1) .0
+
+-- canonical numbers are below p, at every place
 pub canonical-below : (l : List ℕ) → canonical l ≡ true → (i : ℕ) → getD l i 0 < p
 unfolding canonical
 canonical-below [] e i = lit< tt
@@ -70,7 +89,7 @@ canonical-below (x ∷ xs) e (suc i) = canonical-below xs (both-true (ltb x p) (
 
 -- a test over a list that goes by its elements: at the place i, and at the end
 module _ (a : List ℕ) (i : ℕ) where
-  front : i < length a → drop i a ≡ getD a i 0 ∷ drop (i + 1) a
+  pub front : i < length a → drop i a ≡ getD a i 0 ∷ drop (i + 1) a
   front h = rw (add-one, drop-cons a i 0)
 
   pub canonical-at : i < length a → canonical (drop i a) ≡ (ltb (getD a i 0) p && canonical (drop (i + 1) a))

@@ -1,7 +1,7 @@
 -- "Where a call is turned back" (document 01): one definition for each line of the table.
 use mathlib.Core.Bool.{Bool, true, false, cond, not, _&&_, _||_}
 use mathlib.Core.List.{List, [], _∷_}
-use Prim.Native.Nat.{ℕ}
+use Prim.Native.Nat.{ℕ, _/_, _%_}
 use lib.ListN.{length, take}
 use lib.Dec.{eqb, ltb}
 use Rattle.algebra.specs.Prime.{p}
@@ -35,6 +35,11 @@ distinct (x ∷ xs) = not (member x xs) && distinct xs
 -- "rows | 1 | a row not 94 values"
 abbrev pub rowLength : List ℕ → Condition
 rowLength row = record { number = 1; holds = not (eqb (length row) 94) }
+
+-- "rows | 1 | .. a run not 1 to 65,536 whole rows"
+abbrev pub runLength : List ℕ → Condition
+runLength run =
+    record { number = 1; holds = not (eqb (length run % 94) 0) || eqb (length run) 0 || ltb 65536 (length run / 94) }
 
 -- "masks | 2 | not 25 values"
 abbrev pub maskCount : List ℕ → Condition

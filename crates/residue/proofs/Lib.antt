@@ -4,5 +4,5 @@ pub mod Digits
 pub mod Folding
 pub mod Operands
 pub mod Field
-pub mod Worked
 pub mod Called
+pub mod Carry

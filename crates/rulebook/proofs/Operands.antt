@@ -6,7 +6,6 @@ use mathlib.Core.Bool.{Bool, true}
 use mathlib.Core.List.{List, [], _∷_}
 use Prim.Native.Nat.{ℕ, _<_, _≤_}
 use native.Mathlib.Omega.{arith}
-use lib.ListN.{getD}
 use lib.Dec.{leb, lit<, lit≤}
 use borrow.Author.Tests.{leb-true, le-leb}
 use Rattle.algebra.specs.Prime.{p}
@@ -16,7 +15,6 @@ use Rattle.algebra.proofs.Ring.{eq-of-sub}
 use Rattle.algebra.proofs.Field.{𝔾·isRing, eq-of-nat}
 use Rattle.table.specs.Cells.{Cell, local, lv}
 use Rattle.table.specs.Columns.{REGISTER-NUM, COL-IS-EXT-LINE as IS-EXT-LINE, COL-S-OP0-START as S-OP0, COL-S-OP1-START as S-OP1, COL-S-DST-START as S-DST}
-use Rattle.table.specs.Entry.{constraint}
 use Rattle.table.specs.CpuStark.{selector-sum, constraint-operands-mathches-registers}
 use Rattle.rulebook.specs.Rule.{Rule, fact, _⇒_, Sentence, holds, keepsAll}
 use Rattle.rulebook.specs.Kind.{ones, kindOf}
@@ -27,7 +25,7 @@ use Rattle.rulebook.proofs.Tests.{bool-ext, or-cases, isZero, isZero-eq
 use Rattle.rulebook.proofs.Poly.{Means, unknown, unknown-means}
 use Rattle.rulebook.proofs.Values.{env}
 use Rattle.rulebook.proofs.Split.{Fits, hot, chosen, put-number}
-use Rattle.rulebook.proofs.Sentences.{zero-entry, zero-entries, entry-at, rule-at, rule-seen, group-is}
+use Rattle.rulebook.proofs.Sentences.{zero-entries, entry-at, rule-at, rule-seen, group-is}
 use Rattle.rulebook.proofs.Plans
 use Rattle.rulebook.proofs.Plans.{lone}
 use Rattle.rulebook.proofs.Shape.{Bit, Bits}

@@ -1,5 +1,5 @@
 -- What a sentence of the rulebook says of a pair of rows.
-use mathlib.Core.Bool.{Bool, true, false, not, _&&_, _||_}
+use mathlib.Core.Bool.{Bool, true, not, _&&_, _||_}
 use mathlib.Core.List.{List, [], _∷_}
 use Prim.Native.Nat.{ℕ, _%_}
 use lib.Dec.{eqb}

@@ -1,6 +1,6 @@
 -- The numbers of the values, by computation: how many each group has, and the number of its last.
 use mathlib.Core.Path.{_≡_, refl}
-use mathlib.Core.List.{List, [], _∷_, map}
+use mathlib.Core.List.{List, [], _∷_}
 use Prim.Native.Nat.{ℕ, _+_}
 use lib.ListN.{length}
 use Rattle.table.specs.Entry.{Entry, each}

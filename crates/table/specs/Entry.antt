@@ -1,5 +1,5 @@
 -- Entries of the constraint table and their values, over any operations.
-use mathlib.Core.List.{List, [], _∷_, _++_, map}
+use mathlib.Core.List.{List, [], _++_, map}
 use Prim.Native.Nat.{ℕ, zero, suc}
 use Rattle.algebra.specs.Ring.{Ops}
 use Rattle.algebra.specs.Expr.{Expr, var, con, _⊕_, _⊗_, eval}

@@ -1,6 +1,5 @@
 -- The constraints of simple_arithmatic_op.rs.
 use mathlib.Core.List.{List, [], _∷_}
-use Prim.Native.Nat.{ℕ}
 use Rattle.algebra.specs.Expr.{Expr, _⊕_, _⊖_, _⊗_}
 use Rattle.table.specs.Columns.{COL-OPCODE, COL-OP0, COL-OP1, COL-DST, COL-AUX0, COL-S-SIMPLE-ARITHMATIC-OP}
 use Rattle.table.specs.Masks.{ADD, MUL, EQ, NEQ, ASSERT}

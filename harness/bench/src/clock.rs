@@ -5,13 +5,16 @@ use std::time::Instant;
 /// Many short rounds, so that some are undisturbed on a busy machine.
 pub const ROUNDS: usize = 2000;
 
+/// What a contestant does in a round.
+pub type Work<'a> = Box<dyn FnMut() + 'a>;
+
 /// The least nanoseconds that each contestant's work took in a round.
-pub fn least(contestants: usize, mut work: impl FnMut(usize)) -> Vec<f64> {
-    let mut least = vec![f64::INFINITY; contestants];
-    for _ in 0..ROUNDS {
-        for (contestant, least) in least.iter_mut().enumerate() {
+pub fn least(rounds: usize, contestants: &mut [Work]) -> Vec<f64> {
+    let mut least = vec![f64::INFINITY; contestants.len()];
+    for _ in 0..rounds {
+        for (work, least) in contestants.iter_mut().zip(&mut least) {
             let start = Instant::now();
-            work(contestant);
+            work();
             *least = least.min(start.elapsed().as_secs_f64() * 1e9);
         }
     }

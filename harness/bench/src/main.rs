@@ -1,4 +1,4 @@
-//! Times our residue operations against plonky2's, and the listed Rust's pairs.
+//! Times our residue operations, pairs and runs against plonky2's arithmetic and the listed Rust.
 
 mod clock;
 #[cfg(libtiming)]
@@ -6,6 +6,8 @@ mod linked;
 mod loops;
 mod pair;
 mod residues;
+mod runs;
+mod table;
 
 use std::marker::PhantomData;
 
@@ -29,6 +31,7 @@ fn main() {
     }
     residues::report(&contestants);
     pair::report(rust);
+    runs::report(rust);
 }
 
 /// The loops of the linked library, if it was there when this was built.

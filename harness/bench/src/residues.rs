@@ -5,7 +5,7 @@ use std::hint::black_box;
 use fields::P;
 use pairs::Rng;
 
-use crate::clock;
+use crate::clock::{self, Work};
 use crate::loops::Loops;
 
 /// The operations of a round.
@@ -84,9 +84,15 @@ pub fn report(contestants: &[(&str, &dyn Loops)]) {
     let mut rng = Rng::new(0);
     for (name, operation) in OPERATIONS {
         let mut operands = vec![Operands::draw(&mut rng); contestants.len()];
-        let least = clock::least(contestants.len(), |i| {
-            operation(contestants[i].1, black_box(&mut operands[i]));
-        });
+        let mut works: Vec<Work> = contestants
+            .iter()
+            .zip(&mut operands)
+            .map(|((_, loops), operands)| -> Work {
+                Box::new(move || operation(*loops, black_box(operands)))
+            })
+            .collect();
+        let least = clock::least(clock::ROUNDS, &mut works);
+        drop(works);
         let results: Vec<Operands> = operands.into_iter().map(Operands::reduced).collect();
         assert!(
             results.iter().all(|result| *result == results[0]),

@@ -1,26 +1,7 @@
 //! The functions that are compared, whoever answers them.
 
+use felmugo::flat::{FelmugoReport, FelmugoResidue, FelmugoVerdict};
 use olavm::Pair;
-
-/// The answer of an operation on residues: a refusal number, or 0 and the result.
-#[repr(C)]
-#[derive(Clone, Copy, Debug, PartialEq, Eq)]
-pub struct FelmugoResidue {
-    /// 0, or the refusal's number.
-    pub number: u64,
-    /// The result, or 0.
-    pub value: u64,
-}
-
-/// The answer of the judge: a refusal number, or 0 and whether the pair keeps every rule.
-#[repr(C)]
-#[derive(Clone, Copy, Debug, PartialEq, Eq)]
-pub struct FelmugoVerdict {
-    /// 0, or the refusal's number.
-    pub number: u64,
-    /// 1 for "keeps", else 0.
-    pub keeps: u64,
-}
 
 /// The inputs of a call for the values of a pair, of any lengths.
 #[derive(Clone, Copy, Debug)]
@@ -71,4 +52,6 @@ pub trait Entries {
     fn pair_fold(&self, call: Call, alphas: &[u64], accs: &mut [u64]) -> u64;
     /// Judges a pair, for a row that is first and last as the call's weights tell.
     fn pair_judge(&self, call: Call) -> FelmugoVerdict;
+    /// Reports on a run.
+    fn run_report(&self, run: &[u64], masks: &[u64]) -> FelmugoReport;
 }

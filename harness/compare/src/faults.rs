@@ -10,6 +10,12 @@ use crate::Call;
 /// The numbers that a call for the values of a pair may be refused with.
 pub(crate) const NUMBERS: [u64; 6] = [1, 2, 3, 5, 6, 7];
 
+/// Counts of masks that are refused.
+pub(crate) const MASK_COUNTS: [usize; 4] = [0, 4, MASKS - 1, MASKS + 1];
+
+/// The numbers about which a content begins to be refused.
+pub(crate) const LIMITS: [u64; 4] = [P - 1, P, P + 1, u64::MAX];
+
 /// The inputs of a call, and the length of its buffer.
 #[derive(Clone, Debug)]
 pub(crate) struct Inputs {
@@ -56,20 +62,16 @@ impl Inputs {
     }
 
     fn spoil_one(&mut self, rng: &mut Rng, number: u64) {
-        let not_canonical = P + rng.word() % (u64::MAX - P + 1);
+        let not_canonical = not_canonical(rng);
         let row = match rng.flip() {
             true => &mut self.lv,
             false => &mut self.nv,
         };
         match number {
-            1 => resize(row, rng.pick(&[0, 1, COLUMNS - 1, COLUMNS + 1])),
-            2 => resize(&mut self.masks, rng.pick(&[0, 4, MASKS - 1, MASKS + 1])),
+            1 => row.resize(rng.pick(&[0, 1, COLUMNS - 1, COLUMNS + 1]), 0),
+            2 => self.masks.resize(rng.pick(&MASK_COUNTS), 0),
             3 => self.buffer = rng.pick(&[0, 1, VALUES - 1]),
-            5 if rng.flip() => self.masks[rng.below(MASKS)] = not_canonical,
-            5 => {
-                let place = 1 + rng.below(ARITHMETIC - 1);
-                self.masks[place] = self.masks[rng.below(place)];
-            }
+            5 => spoil_masks(rng, &mut self.masks),
             6 => row[rng.below(COLUMNS)] = not_canonical,
             _ if rng.flip() => self.z_last = not_canonical,
             _ => self.lagrange_basis_first = not_canonical,
@@ -77,7 +79,17 @@ impl Inputs {
     }
 }
 
-/// Cuts off at the end, or fills up with 0.
-pub(crate) fn resize(numbers: &mut Vec<u64>, length: usize) {
-    numbers.resize(length, 0);
+/// Makes one of 25 masks not canonical, or two of the first five equal.
+pub(crate) fn spoil_masks(rng: &mut Rng, masks: &mut [u64]) {
+    if rng.flip() {
+        masks[rng.below(MASKS)] = not_canonical(rng);
+    } else {
+        let place = 1 + rng.below(ARITHMETIC - 1);
+        masks[place] = masks[rng.below(place)];
+    }
+}
+
+/// A number that is not below p.
+pub(crate) fn not_canonical(rng: &mut Rng) -> u64 {
+    P + rng.word() % (u64::MAX - P + 1)
 }

@@ -1,12 +1,14 @@
 //! What a call has to answer: a refusal of document 01's table, else what the listed Rust's
 //! values are or tell.
 
-use fields::{Plain, P};
+use fields::{Plain, Residue, P};
 use olavm::{Pair, Reference, Row, Values, COLUMNS, MASKS, VALUES};
 use pairs::columns::*;
-use pairs::masks::ARITHMETIC;
+use pairs::masks::are_accepted;
+use pairs::{Run, MAX_ROWS};
+use plonky2::field::types::Field;
 
-use crate::{Call, FelmugoVerdict};
+use crate::{Call, FelmugoReport, FelmugoResidue, FelmugoVerdict};
 
 /// The values of a pair, or the number of the refusal.
 pub fn pair_values(rust: Reference, call: Call, buffer: usize) -> Result<Values, u64> {
@@ -44,65 +46,93 @@ pub fn pair_judge(rust: Reference, call: Call) -> FelmugoVerdict {
     }
 }
 
+/// The report on a run over its pairs' values, computed over the field `F`.
+pub fn run_report<F: Residue>(rust: Reference, run: &[u64], masks: &[u64]) -> FelmugoReport {
+    match run_refusal(run, masks) {
+        0 => report::<F>(rust, Run::of_words(masks, run).pairs()),
+        number => FelmugoReport {
+            number,
+            ..FelmugoReport::default()
+        },
+    }
+}
+
+/// The report on pairs.
+pub fn report<F: Residue>(rust: Reference, pairs: impl Iterator<Item = Pair>) -> FelmugoReport {
+    let mut report = FelmugoReport::default();
+    for pair in pairs {
+        let values = rust.values_over::<F>(&pair);
+        if let Some(place) = values.iter().position(|v| *v != 0) {
+            report.failing += 1;
+            if report.found == 0 {
+                (report.found, report.pair, report.value) = (1, report.pairs, place as u64 + 1);
+            }
+        }
+        report.pairs += 1;
+    }
+    report
+}
+
+/// What an operation on residues answers.
+pub fn operation(a: u64, b: u64, meant: Operation) -> FelmugoResidue {
+    if is_not_canonical(&[a, b]) {
+        return FelmugoResidue {
+            number: 7,
+            value: 0,
+        };
+    }
+    let of = Plain::from_canonical_u64;
+    FelmugoResidue {
+        number: 0,
+        value: meant(of(a), of(b)).canonical(),
+    }
+}
+
+/// An operation's meaning.
+pub type Operation = fn(Plain, Plain) -> Plain;
+
 /// The number with which a call for the values of a pair is refused, or 0.
 pub fn values_refusal(call: Call, buffer: usize) -> u64 {
-    lowest(&[
-        (1, has_wrong_row(call)),
-        (2, call.masks.len() != MASKS),
-        (3, buffer < VALUES),
-        (5, has_wrong_mask(call)),
-        (6, is_not_canonical(call.lv) || is_not_canonical(call.nv)),
-        (
-            7,
-            is_not_canonical(&[call.z_last, call.lagrange_basis_first]),
-        ),
-    ])
+    pair_refusal(call, &[(3, buffer < VALUES), (7, has_wrong_weight(call))])
 }
 
 /// The number with which a call for the fold of a pair is refused, or 0.
 pub fn fold_refusal(call: Call, alphas: &[u64], accs: &[u64]) -> u64 {
-    let weights = [call.z_last, call.lagrange_basis_first];
-    lowest(&[
-        (1, has_wrong_row(call)),
-        (2, call.masks.len() != MASKS),
-        (
-            4,
-            !(1..=8).contains(&alphas.len()) || accs.len() != alphas.len(),
-        ),
-        (5, has_wrong_mask(call)),
-        (6, is_not_canonical(call.lv) || is_not_canonical(call.nv)),
-        (
-            7,
-            is_not_canonical(&weights) || is_not_canonical(alphas) || is_not_canonical(accs),
-        ),
-    ])
+    let are_counted = (1..=8).contains(&alphas.len()) && accs.len() == alphas.len();
+    let has_wrong = has_wrong_weight(call) || is_not_canonical(alphas) || is_not_canonical(accs);
+    pair_refusal(call, &[(4, !are_counted), (7, has_wrong)])
 }
 
 /// The number with which a call of the judge is refused, or 0.
 pub fn judge_refusal(call: Call) -> u64 {
-    lowest(&[
-        (1, has_wrong_row(call)),
-        (2, call.masks.len() != MASKS),
-        (5, has_wrong_mask(call)),
-        (6, is_not_canonical(call.lv) || is_not_canonical(call.nv)),
-        (8, !has_plain_flags(call)),
-    ])
+    pair_refusal(call, &[(8, !has_plain_flags(call))])
 }
 
-/// The lowest number whose condition holds, or 0.
-fn lowest(conditions: &[(u64, bool)]) -> u64 {
-    let first = conditions.iter().find(|(_, holds)| *holds);
-    first.map_or(0, |(number, _)| *number)
+/// The number with which a call for the report on a run is refused, or 0.
+pub fn run_refusal(run: &[u64], masks: &[u64]) -> u64 {
+    let rows = run.len() / COLUMNS;
+    let are_whole = run.len().is_multiple_of(COLUMNS) && (1..=MAX_ROWS).contains(&rows);
+    lowest(&[(1, !are_whole), (6, is_not_canonical(run))], masks)
 }
 
-fn has_wrong_row(call: Call) -> bool {
-    call.lv.len() != COLUMNS || call.nv.len() != COLUMNS
+/// The number with which a pair is refused, for what all calls refuse or for other conditions.
+fn pair_refusal(call: Call, others: &[(u64, bool)]) -> u64 {
+    let Call { masks, lv, nv, .. } = call;
+    let has_wrong_row = lv.len() != COLUMNS || nv.len() != COLUMNS;
+    let has_wrong_content = is_not_canonical(lv) || is_not_canonical(nv);
+    let rows = [(1, has_wrong_row), (6, has_wrong_content)];
+    lowest(&[&rows, others].concat(), masks)
 }
 
-fn has_wrong_mask(call: Call) -> bool {
-    let arithmetic = &call.masks[..ARITHMETIC.min(call.masks.len())];
-    let has_repeat = (1..arithmetic.len()).any(|i| arithmetic[..i].contains(&arithmetic[i]));
-    is_not_canonical(call.masks) || has_repeat
+/// The lowest number whose condition holds, those of the masks included, or 0.
+fn lowest(conditions: &[(u64, bool)], masks: &[u64]) -> u64 {
+    let masks = [(2, masks.len() != MASKS), (5, !are_accepted(masks))];
+    let holding = conditions.iter().chain(&masks).filter(|(_, holds)| *holds);
+    holding.map(|(number, _)| *number).min().unwrap_or(0)
+}
+
+fn has_wrong_weight(call: Call) -> bool {
+    is_not_canonical(&[call.z_last, call.lagrange_basis_first])
 }
 
 fn is_not_canonical(numbers: &[u64]) -> bool {

@@ -1,13 +1,11 @@
 //! Compares the operations on residues with their meaning.
 
-use fields::{Plain, Residue, P};
+use fields::P;
 use pairs::Rng;
-use plonky2::field::types::Field;
+use tally::same;
 
-use crate::{Entries, FelmugoResidue, Tally};
-
-/// The refusal's number of an operand that is not below p.
-const NOT_CANONICAL: u64 = 7;
+use crate::model::{self, Operation};
+use crate::{Comparison, FelmugoResidue};
 
 /// Where a carry, a borrow, the reduction or a refusal begins.
 const LIMITS: [u64; 16] = [
@@ -29,45 +27,32 @@ const LIMITS: [u64; 16] = [
     u64::MAX,
 ];
 
-/// Tries all pairs of limits and `count` pairs of other numbers, by all three operations.
-pub fn compare(entries: &dyn Entries, seed: u64, count: u64, tally: &mut Tally) {
-    let mut rng = Rng::new(seed);
-    for a in LIMITS {
-        for b in LIMITS {
-            compare_operands(entries, a, b, tally);
+impl Comparison<'_> {
+    /// Tries all pairs of limits and `count` pairs of other numbers, by all three operations.
+    pub(crate) fn residues(&mut self, seed: u64, count: u64) {
+        let mut rng = Rng::new(seed);
+        for a in LIMITS {
+            for b in LIMITS {
+                self.operands(a, b);
+            }
+        }
+        for _ in 0..count {
+            let (shift_a, shift_b) = (rng.below(64), rng.below(64));
+            let (a, b) = (rng.word(), rng.word());
+            self.operands(a % P, b % P);
+            self.operands(a >> shift_a, !(b >> shift_b));
+            self.operands(!(a >> shift_a), b >> shift_b);
         }
     }
-    for _ in 0..count {
-        let (shift_a, shift_b) = (rng.below(64), rng.below(64));
-        let (a, b) = (rng.word(), rng.word());
-        compare_operands(entries, a % P, b % P, tally);
-        compare_operands(entries, a >> shift_a, !(b >> shift_b), tally);
-        compare_operands(entries, !(a >> shift_a), b >> shift_b, tally);
-    }
-}
 
-fn compare_operands(entries: &dyn Entries, a: u64, b: u64, tally: &mut Tally) {
-    let mut compare_one = |sign: &str, ours: FelmugoResidue, meant: fn(Plain, Plain) -> Plain| {
-        let expected = if a < P && b < P {
-            let of = Plain::from_canonical_u64;
-            FelmugoResidue {
-                number: 0,
-                value: meant(of(a), of(b)).canonical(),
-            }
-        } else {
-            FelmugoResidue {
-                number: NOT_CANONICAL,
-                value: 0,
-            }
+    fn operands(&mut self, a: u64, b: u64) {
+        let mut compare_one = |sign: &str, ours: FelmugoResidue, meant: Operation| {
+            let outcome = same(ours, model::operation(a, b, meant));
+            let told = |difference| format!("{a} {sign} {b}: {difference}");
+            self.tally.note("residue operations", outcome.map_err(told));
         };
-        let outcome = if ours == expected {
-            Ok(())
-        } else {
-            Err(format!("{a} {sign} {b}: {ours:?}, not {expected:?}"))
-        };
-        tally.note("residue operations", outcome);
-    };
-    compare_one("+", entries.add(a, b), |a, b| a + b);
-    compare_one("-", entries.sub(a, b), |a, b| a - b);
-    compare_one("*", entries.mul(a, b), |a, b| a * b);
+        compare_one("+", self.entries.add(a, b), |a, b| a + b);
+        compare_one("-", self.entries.sub(a, b), |a, b| a - b);
+        compare_one("*", self.entries.mul(a, b), |a, b| a * b);
+    }
 }

@@ -1,32 +1,29 @@
 //! Compares the values of pairs of every class.
 
-use olavm::{Reference, Values, VALUES};
+use olavm::{Values, VALUES};
 use pairs::{Class, Rng};
 
-use crate::{calls, model, Call, Entries, Tally};
+use crate::comparison::seeds;
+use crate::{calls, model, Call, Comparison};
 
 /// The lengths of the buffer that are tried.
 const BUFFERS: [usize; 2] = [VALUES, VALUES + 4];
 
-/// Compares `count` pairs; each follows from its seed alone, and the seeds from the first.
-pub fn compare(
-    entries: &dyn Entries,
-    rust: Reference,
-    first_seed: u64,
-    count: u64,
-    tally: &mut Tally,
-) {
-    for seed in (0..count).map(|n| first_seed.wrapping_add(n)) {
-        let class = Class::in_turn(seed);
-        let mut rng = Rng::new(seed);
-        let pair = class.draw(&mut rng);
-        let call = Call::from(&pair);
-        let buffer = rng.pick(&BUFFERS);
-        let expected = model::pair_values(rust, call, buffer);
-        let outcome = is_kept_as_meant(class, &expected)
-            .and_then(|()| calls::compare(entries, call, &expected, buffer, &mut rng))
-            .map_err(|difference| format!("seed {seed}: {difference}\n{call:?}"));
-        tally.note(&format!("pairs, {class}"), outcome);
+impl Comparison<'_> {
+    /// Compares the values of `count` pairs.
+    pub(crate) fn values(&mut self, first_seed: u64, count: u64) {
+        for seed in seeds(first_seed, count) {
+            let class = Class::in_turn(seed);
+            let mut rng = Rng::new(seed);
+            let pair = class.draw(&mut rng);
+            let call = Call::from(&pair);
+            let buffer = rng.pick(&BUFFERS);
+            let expected = model::pair_values(self.rust, call, buffer);
+            let outcome = is_kept_as_meant(class, &expected)
+                .and_then(|()| calls::compare(self.entries, call, &expected, buffer, &mut rng))
+                .map_err(|difference| format!("seed {seed}: {difference}\n{call:?}"));
+            self.tally.note(&format!("pairs, {class}"), outcome);
+        }
     }
 }
 

@@ -11,7 +11,7 @@ use crate::recording::{recorded, Recording};
 use crate::stark::{
     constraint_consumer::ConstraintConsumer, stark::Stark, vars::StarkEvaluationVars,
 };
-use crate::{Masks, Pair, Values, COLUMNS, VALUES};
+use crate::{Masks, Pair, Values, COLUMNS};
 
 /// The listed Rust, `eval_packed_generic` of `CpuStark` with one lane over the base field.
 #[derive(Clone, Copy, Debug)]
@@ -37,17 +37,14 @@ impl Reference {
             of(pair.lagrange_basis_first),
             Recording::ZEROS,
         );
-        let record = recorded(|| {
+        recorded(|| {
             evaluate(
                 &pair.masks,
                 &pair.lv.map(of),
                 &pair.nv.map(of),
                 &mut consumer,
             )
-        });
-        record
-            .try_into()
-            .unwrap_or_else(|record: Vec<u64>| panic!("{} values, not {VALUES}", record.len()))
+        })
     }
 
     /// What the values of a pair, folded over the field `F`, make of each alpha's accumulator.

@@ -3,6 +3,7 @@
 use fields::P;
 use olavm::Row;
 
+use crate::residues::{add, sub};
 use crate::rng::Rng;
 
 /// The ends of the range, and 1.
@@ -45,6 +46,16 @@ pub fn weight(rng: &mut Rng) -> u64 {
         1 => 1,
         _ => rng.residue(),
     }
+}
+
+/// Puts another residue in the place of one, mostly a near one.
+pub fn alter(rng: &mut Rng, cell: &mut u64) {
+    *cell = match rng.below(4) {
+        0 => add(*cell, 1),
+        1 => sub(*cell, 1),
+        2 => sub(1, *cell),
+        _ => any(rng),
+    };
 }
 
 /// A row of residues of one sort.

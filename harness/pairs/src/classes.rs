@@ -7,7 +7,6 @@ use olavm::{Pair, Row, COLUMNS};
 use crate::columns::*;
 use crate::current::choose;
 use crate::kinds::Kind;
-use crate::residues::{add, sub};
 use crate::rng::Rng;
 use crate::runs::Run;
 use crate::{cells, kept, masks};
@@ -44,6 +43,11 @@ impl Class {
             6..=10 => Self::Kept(kind),
             _ => Self::Damaged(kind),
         }
+    }
+
+    /// A pair of any class.
+    pub fn any(rng: &mut Rng) -> Pair {
+        Self::in_turn(rng.word()).draw(rng)
     }
 
     /// A pair of this class.
@@ -124,13 +128,8 @@ fn damaged(rng: &mut Rng, kind: Kind) -> Pair {
         } else {
             &mut pair.nv
         };
-        let cell = &mut row[rng.below(COLUMNS)];
-        *cell = match rng.below(4) {
-            0 => add(*cell, 1),
-            1 => sub(*cell, 1),
-            2 => sub(1, *cell),
-            _ => cells::any(rng),
-        };
+        let column = rng.below(COLUMNS);
+        cells::alter(rng, &mut row[column]);
     }
     if rng.one_in(4) {
         pair.z_last = cells::weight(rng);

@@ -14,6 +14,7 @@ pub mod kept;
 pub mod kinds;
 pub mod masks;
 mod next;
+mod plan;
 mod residues;
 mod rng;
 mod runs;
@@ -21,4 +22,4 @@ pub mod scenario;
 
 pub use classes::Class;
 pub use rng::Rng;
-pub use runs::Run;
+pub use runs::{Run, MAX_ROWS};

@@ -64,6 +64,11 @@ pub fn any(rng: &mut Rng) -> Masks {
     }
 }
 
+/// Whether document 01 accepts the contents: all below p, the first five different.
+pub fn are_accepted(masks: &[u64]) -> bool {
+    masks.iter().all(|mask| *mask < P) && are_distinct(&masks[..ARITHMETIC.min(masks.len())])
+}
+
 fn are_distinct(masks: &[u64]) -> bool {
     (1..masks.len()).all(|i| !masks[..i].contains(&masks[i]))
 }
@@ -76,9 +81,7 @@ mod tests {
     fn every_list_is_accepted() {
         let mut rng = Rng::new(1);
         for _ in 0..10_000 {
-            let masks = any(&mut rng);
-            assert!(masks.iter().all(|mask| *mask < P));
-            assert!(are_distinct(&masks[..ARITHMETIC]));
+            assert!(are_accepted(&any(&mut rng)));
         }
     }
 

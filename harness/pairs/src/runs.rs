@@ -1,14 +1,18 @@
 //! Whole runs that keep every rule.
 
-use olavm::{Masks, Pair, Row};
+use olavm::{Masks, Pair, Row, COLUMNS};
 
 use crate::columns::*;
 use crate::current::complete;
 use crate::demands::Demands;
 use crate::kinds::Kind;
+use crate::plan::{plan, Step};
 use crate::rng::Rng;
 use crate::scenario::Scenario;
 use crate::{cells, context, masks, next};
+
+/// The most rows of a run.
+pub const MAX_ROWS: usize = 65_536;
 
 /// The rows of a run under their masks.
 #[derive(Clone, Debug)]
@@ -47,6 +51,15 @@ impl Run {
         Self { masks, rows }
     }
 
+    /// The run of 25 masks and of whole rows one after the other.
+    pub fn of_words(masks: &[u64], rows: &[u64]) -> Self {
+        let row = |row: &[u64]| row.try_into().expect("rows are whole");
+        Self {
+            masks: masks.try_into().expect("there are 25 masks"),
+            rows: rows.chunks(COLUMNS).map(row).collect(),
+        }
+    }
+
     /// The pair of row `i` and the row after it; the last row's pair returns to row 0.
     pub fn pair(&self, i: usize) -> Pair {
         let last = i + 1 == self.rows.len();
@@ -59,6 +72,29 @@ impl Run {
         }
     }
 
+    /// The rows one after the other.
+    pub fn words(&self) -> Vec<u64> {
+        self.rows.concat()
+    }
+
+    /// Alters a few cells, or puts random rows or copies in the place of a few.
+    pub fn damage(&mut self, rng: &mut Rng) {
+        let rows = &mut self.rows;
+        let many = 1 + rows.len() / 8;
+        for _ in 0..1 + rng.below(many) {
+            let (i, other) = (rng.below(rows.len()), rng.below(rows.len()));
+            match rng.below(8) {
+                0 => rows[i] = cells::row(rng, cells::any),
+                1 => rows[i] = rows[other],
+                2 => rows.swap(i, other),
+                _ => {
+                    let column = rng.below(COLUMNS);
+                    cells::alter(rng, &mut rows[i][column]);
+                }
+            }
+        }
+    }
+
     /// The pairs of all rows.
     pub fn pairs(&self) -> impl Iterator<Item = Pair> + '_ {
         (0..self.rows.len()).map(|i| self.pair(i))
@@ -67,93 +103,6 @@ impl Run {
 
 /// How far CALL_SC moves TP.
 const CALL_SC_TAPE: u64 = 12;
-
-/// What a row of a run is.
-#[derive(Clone, Copy)]
-struct Step {
-    kind: Kind,
-    /// A main row of a tape kind has this many extension rows.
-    ext_rows: usize,
-    ext: bool,
-    entry: bool,
-    pad: bool,
-    op1_imm: bool,
-    taken: bool,
-}
-
-impl Step {
-    fn main(rng: &mut Rng, kind: Kind) -> Self {
-        Self {
-            kind,
-            ext_rows: 0,
-            ext: false,
-            entry: false,
-            pad: false,
-            op1_imm: rng.flip(),
-            taken: rng.flip(),
-        }
-    }
-
-    /// The end of a transaction.
-    fn end(rng: &mut Rng) -> Self {
-        Self {
-            entry: true,
-            ..Self::main(rng, Kind::End)
-        }
-    }
-
-    fn padding(rng: &mut Rng) -> Self {
-        Self {
-            pad: true,
-            ..Self::end(rng)
-        }
-    }
-}
-
-/// Transactions, then either padding rows or a call, which the rules let stand only there:
-/// row 0's TP is then what it makes of a later transaction's 0.
-fn plan(rng: &mut Rng, length: usize) -> Vec<Step> {
-    let mut steps = Vec::with_capacity(length);
-    let closing = if length >= 4 && rng.one_in(4) {
-        let call = Step::main(rng, Kind::CallSc);
-        let ext = Step { ext: true, ..call };
-        vec![Step::main(rng, Kind::Mov), call, ext]
-    } else {
-        let count = rng.below(length + 1);
-        (0..count).map(|_| Step::padding(rng)).collect()
-    };
-    let active = length - closing.len();
-    while steps.len() + 1 < active {
-        let room = active - 1 - steps.len();
-        steps.extend(instruction(rng, room));
-    }
-    if active > 0 {
-        steps.push(Step::end(rng));
-    }
-    steps.extend(closing);
-    steps
-}
-
-/// The rows of one instruction, at most `room`.
-fn instruction(rng: &mut Rng, room: usize) -> Vec<Step> {
-    let kind = rng.pick(&Kind::ALL);
-    let mut step = Step::main(rng, kind);
-    step.entry = step.kind == Kind::End && rng.flip();
-    step.ext_rows = match step.kind {
-        Kind::Sload | Kind::Sstore => 1,
-        Kind::Tload | Kind::Tstore => 1 + rng.below(4),
-        Kind::End => (!step.entry).into(),
-        Kind::CallSc => room,
-        _ => 0,
-    };
-    if step.ext_rows >= room {
-        step = Step::main(rng, Kind::Arithmetic);
-    }
-    let ext = Step { ext: true, ..step };
-    let mut steps = vec![step];
-    steps.resize(1 + step.ext_rows, ext);
-    steps
-}
 
 fn scenario(rng: &mut Rng, plan: &[Step], i: usize) -> Scenario {
     let last = i + 1 == plan.len();

@@ -1,7 +1,7 @@
-use Prim.Native.Nat.{ℕ, suc, _+_, _-_, _*_, _≤_, _<_}
-use mathlib.Core.Path.{_≡_, refl, sym, ap, _∙_}
+use Prim.Native.Nat.{_-_, _≤_, _<_}
+use mathlib.Core.Path.{_≡_, sym, _∙_}
 use native.Mathlib.Omega.{arith}
-use lib.ListN.{length, take, drop, getD}
+use lib.ListN.{length, drop}
 use borrow.Author.Needs.{needs}
 use Rattle.refusals.specs.Refusal.{distinct, member}
 use Rattle.refusals.proofs.Laws.{distinct-turn, distinct-end}

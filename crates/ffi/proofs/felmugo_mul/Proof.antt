@@ -1,12 +1,12 @@
 -- `ffi::felmugo_mul` meets its contract.
 use mathlib.Core.Path.{ap, _∙_}
 use borrow.Author.Needs.{needs}
-use Rattle.ffi.specs.Flat.{flatResidue}
+use Rattle.flat.specs.Flat.{flatResidue}
 use Rattle.ffi.proofs.felmugo_mul.Statement.{statement}
 use Rattle.ffi.proofs.felmugo_mul.Tie as tie
 
 returns : tie.Need-returns
-returns c = c .flat .ensures ∙ ap flatResidue (c .before .mul .ensures)
+returns c = c .flat-residue .ensures ∙ ap flatResidue (c .before .mul .ensures)
 
 pub felmugo-mul-spec : {M : Type 1} → statement M
 felmugo-mul-spec = tie.close (tie.spec (λ c κs. search needs) (λ c κs. search needs) returns)

@@ -1,7 +1,7 @@
 -- `ffi::felmugo_pair_judge` meets its contract.
 use mathlib.Core.Path.{ap, _∙_}
 use borrow.Author.Needs.{needs}
-use Rattle.ffi.specs.Flat.{flatVerdict}
+use Rattle.flat.specs.Flat.{flatVerdict}
 use Rattle.ffi.proofs.felmugo_pair_judge.Statement.{statement}
 use Rattle.ffi.proofs.felmugo_pair_judge.Tie as tie
 

@@ -5,7 +5,7 @@ use Rattle.table.specs.Rows.{Row}
 use Rattle.table.proofs.Called.{exprs}
 use Rattle.table.proofs.Rows.{places}
 use Rattle.rulebook.specs.Rulebook.{rules-I}
-use Rattle.judge_kinds.proofs.Rules.{keeps, rules, chains}
+use Rattle.judge_columns.proofs.Rules.{keeps, rules, chains}
 use Rattle.judge_flow.proofs.keeps_clk.Statement.{statement}
 use Rattle.judge_flow.proofs.keeps_clk.Tie as tie
 

@@ -5,9 +5,9 @@ use Rattle.table.specs.Rows.{Row}
 use Rattle.table.proofs.Called.{exprs}
 use Rattle.table.proofs.Rows.{places}
 use Rattle.rulebook.specs.Rulebook.{rules-K}
-use Rattle.judge_kinds.proofs.Rules.{keeps, rules}
+use Rattle.judge_columns.proofs.Rules.{keeps, rules}
+use Rattle.judge_columns.proofs.Spans.{keptUnlessDstOf}
 use Rattle.judge_kinds.proofs.Picked.{registersFreeOf, fpFreeOf}
-use Rattle.judge_kinds.proofs.Spans.{keptUnlessDstOf}
 use Rattle.judge_flow.proofs.keeps_registers.Statement.{statement}
 use Rattle.judge_flow.proofs.keeps_registers.Tie as tie
 

@@ -4,8 +4,8 @@ use denote.Ref.{now}
 use Rattle.table.specs.Rows.{Row}
 use Rattle.table.proofs.Called.{exprs}
 use Rattle.table.proofs.Rows.{places}
-use Rattle.judge_kinds.proofs.Rules.{keeps, rules, counts}
-use Rattle.judge_kinds.proofs.Spans.{bitsOf, onesOf, nextChosenOf, asks-chosen}
+use Rattle.judge_columns.proofs.Rules.{keeps, rules, counts}
+use Rattle.judge_columns.proofs.Spans.{bitsOf, onesOf, nextChosenOf, asks-chosen}
 use Rattle.judge_instruction.proofs.keeps_dst.Statement.{statement}
 use Rattle.judge_instruction.proofs.keeps_dst.Tie as tie
 

@@ -5,7 +5,7 @@ use Rattle.table.specs.Rows.{Row}
 use Rattle.table.proofs.Called.{exprs}
 use Rattle.table.proofs.Rows.{places}
 use Rattle.rulebook.specs.Rulebook.{rules-G}
-use Rattle.judge_kinds.proofs.Rules.{keeps, rules}
+use Rattle.judge_columns.proofs.Rules.{keeps, rules}
 use Rattle.judge_instruction.proofs.Words.{wordPartOf, word-part-below, word-part-asks}
 use Rattle.judge_instruction.proofs.keeps_instruction_encode.Statement.{statement}
 use Rattle.judge_instruction.proofs.keeps_instruction_encode.Tie as tie

@@ -1,7 +1,5 @@
 -- `pair::pair_values` meets its contract.
 use mathlib.Core.Path.{sym, _∙_}
-use denote.Ref.{now}
-use lib.ListN.{length}
 use borrow.Author.Needs.{needs}
 use Rattle.pair.proofs.Laws.{core-asks, buffer-kept, buffer-written}
 use Rattle.pair.proofs.pair_values.Statement.{statement}

@@ -1,5 +1,5 @@
 -- `cpu_context::body::body_ctx_regs` meets its contract.
-use mathlib.Core.Path.{_≡_, sym}
+use mathlib.Core.Path.{sym}
 use denote.Ref.{now}
 use Rattle.table.specs.Rows.{Row}
 use Rattle.table.specs.CpuStark.{body-ctx-regs}

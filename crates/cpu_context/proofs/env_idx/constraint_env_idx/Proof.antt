@@ -1,5 +1,5 @@
 -- `cpu_context::env_idx::constraint_env_idx` meets its contract.
-use mathlib.Core.Path.{_≡_, sym}
+use mathlib.Core.Path.{sym}
 use denote.Ref.{now}
 use Rattle.table.specs.Rows.{Row}
 use Rattle.table.specs.Entry.{values}

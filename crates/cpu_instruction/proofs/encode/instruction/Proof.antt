@@ -1,11 +1,12 @@
 -- `cpu_instruction::encode::instruction` meets its contract.
 use mathlib.Core.Path.{sym}
 use denote.Ref.{now}
+use Rattle.sums.proofs.Called.{wide-sums, reduced-below}
 use Rattle.table.specs.Rows.{Row}
 use Rattle.table.specs.CpuStark.{instruction}
 use Rattle.table.proofs.Called.{exprs, sum-below}
 use Rattle.table.proofs.Rows.{places}
-use Rattle.cpu_instruction.proofs.Laws.{loop-places}
+use Rattle.row_sums.proofs.Laws.{loop-places}
 use Rattle.cpu_instruction.proofs.Calls.{helpers, helpers-below}
 use Rattle.cpu_instruction.proofs.encode.instruction.Statement.{statement}
 use Rattle.cpu_instruction.proofs.encode.instruction.Tie as tie
@@ -15,7 +16,7 @@ row c = c .pre
 
 returns : tie.Need-returns
 unfolding instruction
-returns c = (sym (search (exprs, helpers) depth 100 fits 100000), search sum-below)
+returns c = (sym (search (exprs, helpers, wide-sums) depth 100 fits 100000), search sum-below)
 
 pub instruction-spec : {M : Type 1} → statement M
-instruction-spec = tie.close (search (tie.spec, returns, places, loop-places, helpers-below, row))
+instruction-spec = tie.close (search (tie.spec, returns, places, loop-places, helpers-below, reduced-below, row))

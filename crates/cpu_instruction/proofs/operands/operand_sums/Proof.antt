@@ -6,7 +6,7 @@ use Rattle.table.specs.Entry.{values}
 use Rattle.table.specs.CpuStark.{operand-sums}
 use Rattle.table.proofs.Called.{exprs}
 use Rattle.table.proofs.Rows.{places, part-length}
-use Rattle.cpu_instruction.proofs.Laws.{loop-places}
+use Rattle.row_sums.proofs.Laws.{loop-places}
 use Rattle.cpu_instruction.proofs.Calls.{helpers, helpers-below}
 use Rattle.cpu_instruction.proofs.operands.operand_sums.Statement.{statement}
 use Rattle.cpu_instruction.proofs.operands.operand_sums.Tie as tie

@@ -6,12 +6,13 @@ use borrow.Author.Needs.{needs}
 use lib.ListN.{length, take, getD, length-set, length-take, length-drop}
 use Rattle.algebra.specs.Expr.{eval}
 use Rattle.residue.specs.Residues.{subP, mulP}
+use Rattle.residue.proofs.Laws.{mulP-word}
 use Rattle.table.specs.Columns.{REGISTER-NUM, COL-IS-EXT-LINE}
 use Rattle.table.specs.CpuStark.{selectors-binary}
 use Rattle.table.proofs.Rows.{places}
 use Rattle.parts.specs.Parts.{upTo}
 use Rattle.parts.proofs.Laws.{filled, upTo-none, upTo-step, part-at, each-is}
-use Rattle.cpu_instruction.proofs.Laws.{part-canonical}
+use Rattle.row_sums.proofs.Laws.{part-canonical}
 use Rattle.cpu_instruction.proofs.operands.selectors_binary.Statement.{statement}
 use Rattle.cpu_instruction.proofs.operands.selectors_binary.Tie as tie
 
@@ -40,10 +41,10 @@ loop-holds c = (omega arith, refl, search upTo-none)
 shared-slice-read-mul : tie.Need-shared-slice-read-mul Inv-loop μ-loop
 shared-slice-read-mul c = simp (length-take, length-drop) (omega arith)
 
-sub-requires-2 : tie.Need-sub-requires-2 Inv-loop μ-loop
-sub-requires-2 c κs =
+one-minus-requires : tie.Need-one-minus-requires Inv-loop μ-loop
+one-minus-requires c κs =
     let start = c .before .before .before .before .before .before .before .before .before in
-    search (places, part-canonical (start .args .start) (start .args .start + REGISTER-NUM - start .args .start) (start .pre .0) .below)
+    part-canonical (start .args .start) (start .args .start + REGISTER-NUM - start .args .start) (start .pre .0) .below _
 
 loop-again : tie.Need-loop-again Inv-loop μ-loop
 loop-again c =
@@ -54,7 +55,7 @@ loop-again c =
       omega arith,
       simp length-set (omega arith),
       upTo-step _ _ _ _ h (l .inv .2)
-          (rw (c .mul2 .ensures .0, c .before .before .before .mul .ensures .0, c .before .sub2 .ensures .0, c .before .before .before .before .before .before .before .sub .ensures .0, part-at _ start _ _ k)),
+          (c .mul2 .ensures .0 ∙ mulP-word _ _ (c .before .one-minus .ensures) ∙ rw (c .before .before .before .mul .ensures .0, c .before .before .before .before .before .before .before .sub .ensures .0, part-at _ start _ _ k)),
     )
 
 returns : tie.Need-returns Inv-loop μ-loop
@@ -82,7 +83,7 @@ selectors-binary-spec =
     (λ c κs. tt)
     (λ c. omega arith)
     (λ c. omega arith)
-    sub-requires-2
+    one-minus-requires
     (λ c κs. tt)
     (λ c. omega arith)
     (λ c. omega arith)

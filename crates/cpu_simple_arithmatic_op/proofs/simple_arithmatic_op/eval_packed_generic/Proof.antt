@@ -6,7 +6,7 @@ use Rattle.table.specs.Entry.{values}
 use Rattle.table.specs.SimpleArithmaticOp.{simple-arithmatic-op}
 use Rattle.table.proofs.Called.{exprs}
 use Rattle.table.proofs.Rows.{places}
-use Rattle.cpu_simple_arithmatic_op.proofs.Calls.{isOpOf, is-op-below}
+use Rattle.cpu_simple_arithmatic_op.proofs.Calls.{ops}
 use Rattle.cpu_simple_arithmatic_op.proofs.simple_arithmatic_op.eval_packed_generic.Statement.{statement}
 use Rattle.cpu_simple_arithmatic_op.proofs.simple_arithmatic_op.eval_packed_generic.Tie as tie
 
@@ -18,7 +18,7 @@ all-masks c = c .pre .1
 
 returns : tie.Need-returns
 unfolding values simple-arithmatic-op
-returns c = sym (search (exprs, isOpOf) depth 100 fits 100000)
+returns c = sym (search (exprs, ops) depth 100 fits 100000)
 
 pub eval-packed-generic-spec : {M : Type 1} → statement M
-eval-packed-generic-spec = tie.close (search (tie.spec, returns, places, is-op-below, local-row, all-masks))
+eval-packed-generic-spec = tie.close (search (tie.spec, returns, places, local-row, all-masks))

@@ -6,7 +6,7 @@ use Rattle.table.specs.Rows.{Row}
 use Rattle.table.proofs.Called.{exprs}
 use Rattle.table.proofs.Rows.{places}
 use Rattle.rulebook.specs.Rule.{holds}
-use Rattle.judge_kinds.proofs.Rules.{rules}
+use Rattle.judge_columns.proofs.Rules.{rules}
 use Rattle.judge_kinds.proofs.Cases.{fp-outside, fp-call-sc}
 use Rattle.judge_kinds.proofs.selected.fp_free.Statement.{statement}
 use Rattle.judge_kinds.proofs.selected.fp_free.Tie as tie

@@ -5,7 +5,7 @@ use denote.Ref.{now}
 use Rattle.table.specs.Rows.{Row, Masks}
 use Rattle.table.proofs.Called.{exprs}
 use Rattle.table.proofs.Rows.{places}
-use Rattle.judge_kinds.proofs.Rules.{rules, choices}
+use Rattle.judge_columns.proofs.Rules.{rules, choices}
 use Rattle.judge_kinds.proofs.Cases.{opcode-low, opcode-high, opcode-none}
 use Rattle.judge_kinds.proofs.selected.has_opcode.Statement.{statement}
 use Rattle.judge_kinds.proofs.selected.has_opcode.Tie as tie

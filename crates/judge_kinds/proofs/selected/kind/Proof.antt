@@ -4,7 +4,7 @@ use mathlib.Core.Path.{_≡_, sym}
 use native.Mathlib.Omega.{arith}
 use lib.ListN.{getD}
 use Rattle.rulebook.specs.Kind.{firstOne, kindOf}
-use Rattle.judge_kinds.proofs.Counts.{firstOne-none, firstOne-here, firstOne-later, firstOne-all}
+use Rattle.judge_columns.proofs.Counts.{firstOne-none, firstOne-here, firstOne-later, firstOne-all}
 use Rattle.judge_kinds.proofs.selected.kind.Statement.{statement}
 use Rattle.judge_kinds.proofs.selected.kind.Tie as tie
 

@@ -4,7 +4,7 @@ use denote.Ref.{now}
 use Rattle.table.specs.Rows.{Row}
 use Rattle.table.proofs.Called.{exprs}
 use Rattle.table.proofs.Rows.{places}
-use Rattle.judge_kinds.proofs.Rules.{rules, choices}
+use Rattle.judge_columns.proofs.Rules.{rules, choices}
 use Rattle.judge_kinds.proofs.selected.next_is_ext_kind.Statement.{statement}
 use Rattle.judge_kinds.proofs.selected.next_is_ext_kind.Tie as tie
 

@@ -5,7 +5,7 @@ use denote.Ref.{now}
 use Rattle.table.specs.Rows.{Row}
 use Rattle.table.proofs.Called.{exprs}
 use Rattle.table.proofs.Rows.{places}
-use Rattle.judge_kinds.proofs.Rules.{rules}
+use Rattle.judge_columns.proofs.Rules.{rules}
 use Rattle.judge_kinds.proofs.Cases.{Outside, on-true, on-false, goes-taken, goes-left, goes-outside}
 use Rattle.judge_kinds.proofs.Picked.{sizeOf, size-below}
 use Rattle.judge_kinds.proofs.selected.pc_target.Statement.{statement}

@@ -5,7 +5,7 @@ use denote.Ref.{now}
 use Rattle.table.specs.Rows.{Row}
 use Rattle.table.proofs.Called.{exprs}
 use Rattle.table.proofs.Rows.{places}
-use Rattle.judge_kinds.proofs.Rules.{rules}
+use Rattle.judge_columns.proofs.Rules.{rules}
 use Rattle.judge_kinds.proofs.Cases.{registers-true, registers-outside, registers-call-sc, registers-end}
 use Rattle.judge_kinds.proofs.selected.registers_free.Statement.{statement}
 use Rattle.judge_kinds.proofs.selected.registers_free.Tie as tie

@@ -1,7 +1,7 @@
 -- `residue::checked::mul` meets its contract.
 use mathlib.Core.Path.{sym, _∙_}
 use borrow.Author.Needs.{needs}
-use Rattle.residue.proofs.Operands.{below, refused, given}
+use Rattle.residue.proofs.Operands.{refused, given}
 use Rattle.residue.proofs.checked.mul.Statement.{statement}
 use Rattle.residue.proofs.checked.mul.Tie as tie
 

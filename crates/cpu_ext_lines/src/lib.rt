@@ -1,0 +1,2 @@
+// The constraints of the ext lines (D).
+pub mod ext_lines;

@@ -1,0 +1,2 @@
+// The constraints of the opcode's selectors (F).
+pub mod selectors;

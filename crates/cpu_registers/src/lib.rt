@@ -1,0 +1,2 @@
+// The constraints of cpu_stark.rs on the registers that an instruction may change (K).
+pub mod reg_consistency;

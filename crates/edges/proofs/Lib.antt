@@ -1,0 +1,3 @@
+pub mod Operands
+pub mod Answers
+pub mod ZeroRows

@@ -1,0 +1,30 @@
+-- The answers as flat structs.
+use Rattle.residue.specs.declared.checked.Residue.{Residue}
+use Rattle.residue.specs.Answer.{number, value}
+use Rattle.judge.specs.declared.Verdict.{Verdict}
+use Rattle.judge.specs.Verdict.{number as verdictNumber, keepsOf}
+use Rattle.runs.specs.declared.Report.{Report}
+use Rattle.runs.specs.Report.{found, pairOf, valueOf}
+use Rattle.flat.specs.declared.FelmugoResidue.{FelmugoResidue}
+use Rattle.flat.specs.declared.FelmugoVerdict.{FelmugoVerdict}
+use Rattle.flat.specs.declared.FelmugoReport.{FelmugoReport}
+
+-- document 01's number and value of a residue entry's answer
+abbrev pub flatResidue : Residue → FelmugoResidue
+flatResidue r = record { number = number r; value = value r }
+
+-- document 01's number and meaning of the judge's answer
+abbrev pub flatVerdict : Verdict → FelmugoVerdict
+flatVerdict v = record { number = verdictNumber v; keeps = keepsOf v }
+
+-- a run's report, its spot as three numbers
+abbrev pub flatReport : Report → FelmugoReport
+flatReport r =
+    record {
+      number = r .number;
+      pairs = r .pairs;
+      failing = r .failing;
+      found = found (r .spot);
+      pair = pairOf (r .spot);
+      value = valueOf (r .spot);
+    }

@@ -1,0 +1,3 @@
+pub mod Rules
+pub mod Counts
+pub mod Spans

@@ -1,0 +1,133 @@
+-- A text compared piece by piece with what the model prints.
+use mathlib.Core.Path.{_≡_, sym, ap, ap₂, subst, _∙_}
+use mathlib.Core.Bool.{true, false}
+use mathlib.Core.List.{List, [], _∷_, _++_, append-assoc, append-nil}
+use Prim.Native.Nat.{ℕ, suc, _+_, _-_, _≤_, _<_}
+use native.Mathlib.Numerals.{add-one}
+use native.Mathlib.Omega.{arith}
+use borrow.Author.Tests.{ltb-true}
+use lib.ListN.{length, getD, take, drop, length-drop, drop-of-length-le}
+use lib.Seq.{take-suc, take-all, drop-drop, take-length}
+use lib.Dec.{ltb}
+use Rattle.io.specs.Counts.{Counts}
+use Rattle.rowdesk_steps.specs.Model.{startOf, feedOf, rowsOf, outputOf, Stepped, Gives}
+use Rattle.rowdesk_steps.specs.Sound.{Sound, Onward}
+use Rattle.rowdesk_steps.specs.declared.State.{State}
+use Rattle.rowdesk_steps.specs.declared.Step.{Step}
+use Rattle.rowdesk_steps.proofs.Laws.{by-cases}
+use Rattle.rowdesk_steps.proofs.Steps.{rows-step, ended-steps}
+use Rattle.rowdesk_cases.specs.Case.{Fits, partEnd, Stands}
+use Rattle.rowdesk_cases.specs.declared.Size.{Size}
+use Rattle.rowdesk_cases.specs.declared.Size.the-variants.{Bytes}
+
+-- no byte yet of a text that stands in another
+pub none-yet : (text expected : List ℕ) (at : ℕ) → take (at + 0) expected ≡ take at expected ++ take 0 text
+none-yet text expected at = let e : at + 0 ≡ at = omega arith in rw e (sym (append-nil (take at expected)))
+
+-- one more byte of a text that stands in another
+pub one-more : (text expected : List ℕ) (at i : ℕ) → i < length text → at + length text ≤ length expected → getD expected (at + i) 0 ≡ getD text i 0
+    → take (at + i) expected ≡ take at expected ++ take i text → take (at + (i + 1)) expected ≡ take at expected ++ take (i + 1) text
+one-more text expected at i h k q e =
+    let s : at + (i + 1) ≡ suc (at + i) = omega arith in
+    let w : at + i < length expected = omega arith in
+    rw (s, add-one i, take-suc expected (at + i) 0, take-suc text i 0, e, q) (append-assoc (take at expected) (take i text) (getD text i 0 ∷ []))
+
+-- the part that is read of what is left, and what is left then
+module _ (l : List ℕ) (at size : ℕ) (h : at ≤ length l) where
+  part-is : take (partEnd at size (length l) - at) (drop at l) ≡ take size (drop at l)
+  part-is =
+      by-cases (λ (e : ℕ). take (e - at) (drop at l) ≡ take size (drop at l)) (ltb (length l - at) size)
+      (λ t.
+      let s : length l - at < size = ltb-true _ _ t in
+      take-all (length l - at) (drop at l) (rw length-drop (omega arith)) ∙ sym (take-all size (drop at l) (rw length-drop (omega arith))))
+      (λ _. let e : at + size - at ≡ size = omega arith in rw e)
+
+  left-is : drop (partEnd at size (length l)) l ≡ drop size (drop at l)
+  left-is =
+      by-cases (λ (e : ℕ). drop e l ≡ drop size (drop at l)) (ltb (length l - at) size)
+      (λ t.
+      let s : length l - at < size = ltb-true _ _ t in
+      drop-of-length-le l {i = length l} (omega arith) ∙ sym (drop-of-length-le (drop at l) {i = size} (rw length-drop (omega arith))))
+      (λ _. sym (drop-drop size at l))
+
+pub stands-all : (text expected : List ℕ) (at i : ℕ) → i ≡ length text → at + length text ≤ length expected
+    → take (at + i) expected ≡ take at expected ++ take i text → Stands text expected at
+stands-all text expected at i h k e = record {
+  within = k;
+  is =
+      ap (λ (n : ℕ). take (at + n) expected) (sym h)
+      ∙ e
+      ∙ ap (λ (l : List ℕ). take at expected ++ l) (ap (λ (n : ℕ). take n text) h ∙ take-length text);
+}
+
+-- what stands printed of the output, after the first `at` bytes of the input
+pub record Printed (input expected : List ℕ) (at printed : ℕ) (s : State) : Type 0 where
+  pub sound : Sound s
+  pub within : at ≤ length input
+  pub fits : printed ≤ length expected
+  pub is : outputOf input ≡ take printed expected ++ rowsOf s (drop at input)
+
+-- a step's text that stands behind what was printed
+text-stands : (t : Stepped) (r : Step) (out expected : List ℕ) (printed : ℕ) → Gives t r out → Stands (take (r .length) out) expected printed
+    → (printed + r .length ≤ length expected) × (take (printed + r .length) expected ≡ take printed expected ++ t .text)
+text-stands t r out expected printed g s =
+    let n : length (take (r .length) out) ≡ r .length = sym (g .counts .1) in
+    (rw n at (s .within), ap (λ (k : ℕ). take (printed + k) expected) (sym n) ∙ s .is ∙ ap (λ (x : List ℕ). take printed expected ++ x) (g .text-is))
+
+module _ (input expected : List ℕ) (at end : ℕ) (h : at ≤ length input) where
+  read-is : (size : ℕ) → end ≡ partEnd at size (length input) → take (end - at) (drop at input) ≡ take size (drop at input)
+  read-is size e = ap (λ (k : ℕ). take (k - at) (drop at input)) e ∙ part-is input at size h
+
+  rest-is : (size : ℕ) → end ≡ partEnd at size (length input) → drop end input ≡ drop size (drop at input)
+  rest-is size e = ap (λ (k : ℕ). drop k input) e ∙ left-is input at size h
+
+  pub printed-row : (printed : ℕ) (s : State) (r : Step) (out : List ℕ) → Printed input expected at printed s → s .running ≡ true
+      → end ≡ partEnd at 752 (length input) → end ≤ length input
+      → Gives (feedOf s (take (end - at) (drop at input))) r out → Onward s (r .state) → Stands (take (r .length) out) expected printed
+      → Printed input expected end (printed + r .length) (r .state)
+  printed-row printed s r out k run e w g o st =
+      let t = text-stands _ r out expected printed g st in
+      let f : feedOf s (take (end - at) (drop at input)) ≡ feedOf s (take 752 (drop at input)) = ap (feedOf s) (read-is 752 e) in
+      record {
+        sound = o .sound;
+        within = w;
+        fits = t .0;
+        is =
+            k .is
+            ∙ ap (λ (x : List ℕ). take printed expected ++ x) (rows-step s (drop at input) run)
+            ∙ sym (append-assoc (take printed expected) (feedOf s (take 752 (drop at input)) .text) (rowsOf (feedOf s (take 752 (drop at input)) .state) (drop 752 (drop at input))))
+            ∙ ap₂ (λ (x : List ℕ) (y : State). x ++ rowsOf y (drop 752 (drop at input)))
+            (ap (λ (y : Stepped). take printed expected ++ y .text) (sym f) ∙ sym (t .1))
+            (ap (λ (y : Stepped). y .state) (sym f) ∙ sym (g .state-is))
+            ∙ ap (λ (x : List ℕ). take (printed + r .length) expected ++ rowsOf (r .state) x) (sym (rest-is 752 e));
+      }
+
+pub printed-start : (input expected : List ℕ) (at : ℕ) (r : Step) (out : List ℕ) → at ≡ partEnd 0 200 (length input) → at ≤ length input
+    → Gives (startOf (take (at - 0) (drop 0 input))) r out → Sound (r .state) → Stands (take (r .length) out) expected 0
+    → Printed input expected at (r .length) (r .state)
+unfolding outputOf
+printed-start input expected at r out e w g s st =
+    let t = text-stands _ r out expected 0 g st in
+    let z : 0 + r .length ≡ r .length = omega arith in
+    let f : startOf (take (at - 0) (drop 0 input)) ≡ startOf (take 200 input) = ap startOf (read-is input expected 0 at (omega arith) 200 e) in
+    record {
+      sound = s;
+      within = w;
+      fits = rw z at (t .0);
+      is =
+          ap₂ (λ (x : List ℕ) (y : State). x ++ rowsOf y (drop 200 input))
+          (ap (λ (y : Stepped). y .text) (sym f) ∙ sym (t .1) ∙ ap (λ (k : ℕ). take k expected) z)
+          (ap (λ (y : Stepped). y .state) (sym f) ∙ sym (g .state-is))
+          ∙ ap (λ (x : List ℕ). take (r .length) expected ++ rowsOf (r .state) x) (sym (rest-is input expected 0 at (omega arith) 200 e));
+    }
+
+pub printed-all : (input expected : List ℕ) (at printed : ℕ) (s : State) → Printed input expected at printed s → s .running ≡ false
+    → printed ≡ length expected → outputOf input ≡ expected
+printed-all input expected at printed s k e n =
+    k .is
+    ∙ ap₂ (λ (x y : List ℕ). x ++ y) (ap (λ (j : ℕ). take j expected) n ∙ take-length expected) (ended-steps _ s (drop at input) e)
+    ∙ append-nil expected
+
+-- the bytes of a part that was read
+pub fits-bytes : (r : Size) (n : ℕ) (part : List ℕ) → r ≡ Bytes n → Fits r part → Counts n part
+fits-bytes r n part e f = subst (λ (x : Size). Fits x part) e f

@@ -1,0 +1,169 @@
+// Replays the stored cases of rowdesk. A case is an input of rowdesk and what the plain Rust says must be printed, each with its
+// length in front, eight bytes, low byte first. The cases are the file stdin, made by `harness/run cases > crates/rowdesk_cases/stdin`.
+ghost use mathlib.Core.Path.{_≡_};
+ghost use mathlib.Core.Bool.{true};
+ghost use Prim.Native.Nat.{_≤_};
+ghost use lib.ListN.{length};
+ghost use Rattle.rowdesk_steps.specs.Model.{outputOf};
+ghost use Rattle.rowdesk_cases.specs.Case.{Fits, Stands, partEnd};
+use libc::STDIN_FILENO;
+use libc::STDOUT_FILENO;
+use rowdesk_steps::LINE_BYTES;
+use rowdesk_steps::MASK_BYTES;
+use rowdesk_steps::ROW_BYTES;
+
+// Longer than the parts of any case, and more cases than any file has.
+const MOST_BYTES: usize = 65_536;
+
+const MOST_CASES: u64 = 1_000_000;
+
+const SIZE_BYTES: usize = 8;
+
+// What is read for a part of a case: its bytes, or none of it at the end of the file.
+enum Size {
+    Bytes(usize),
+    Malformed,
+    End,
+}
+
+// What replaying one case finds.
+enum Outcome {
+    Agrees,
+    Differs,
+    Malformed,
+    End,
+}
+
+// The text stands in `expected` behind its first `at` bytes.
+fn stands(text: &[u8], expected: &[u8], at: usize) -> bool
+    requires { ⌜ at ≤ length (now expected) ⌝ }
+    ensures { λ r. ⌜ (r ≡ true → Stands (now (text .entry)) (now (expected .entry)) at) ⌝ }
+{
+    if expected.len() - at < text.len() {
+        return false;
+    }
+    let mut i = 0;
+    while i < text.len() {
+        if expected[at + i] != text[i] {
+            return false;
+        }
+        i += 1;
+    }
+    true
+}
+
+// Where a part of at most `size` bytes that starts at `at` ends.
+fn part_end(at: usize, size: usize, all: usize) -> usize
+    requires { ⌜ at ≤ all ⌝ }
+    ensures end { λ r. ⌜ r ≡ partEnd at size all ⌝ }
+    ensures within { λ r. ⌜ (at ≤ r) × (r ≤ all) ⌝ }
+{
+    if all - at < size { all } else { at + size }
+}
+
+// The steps of rowdesk, on the input, print what is expected and no more.
+fn agrees(input: &[u8], expected: &[u8]) -> bool
+    ensures { λ r. ⌜ (r ≡ true → outputOf (now (input .entry)) ≡ now (expected .entry)) ⌝ }
+{
+    let mut text = [0u8; LINE_BYTES];
+    let mut at = part_end(0, MASK_BYTES, input.len());
+    let first = rowdesk_steps::start(&input[0..at], &mut text);
+    let mut state = first.state;
+    let mut printed = first.length;
+    if !stands(&text[..printed], expected, 0) {
+        return false;
+    }
+    while state.running {
+        let end = part_end(at, ROW_BYTES, input.len());
+        let step = rowdesk_steps::feed(state, &input[at..end], &mut text);
+        let length = step.length;
+        if !stands(&text[..length], expected, printed) {
+            return false;
+        }
+        printed += length;
+        at = end;
+        state = step.state;
+    }
+    printed == expected.len()
+}
+
+// Reads a part of a case, behind its length, into `part`.
+fn read_part(part: &mut [u8]) -> Size
+    ensures { λ r. ⌜ Fits r (now (part .exit)) ⌝ }
+{
+    let mut size = [0u8; SIZE_BYTES];
+    let got = io::read_full(STDIN_FILENO, &mut size);
+    if got == 0 {
+        return Size::End;
+    }
+    if got != SIZE_BYTES {
+        return Size::Malformed;
+    }
+    let n = text::word(&size, 0);
+    if n > part.len() as u64 {
+        return Size::Malformed;
+    }
+    let n = n as usize;
+    if io::read_full(STDIN_FILENO, &mut part[..n]) != n {
+        return Size::Malformed;
+    }
+    Size::Bytes(n)
+}
+
+// Reads what is expected of the input, and compares.
+fn replay_input(input: &[u8]) -> Outcome {
+    let mut expected = [0u8; MOST_BYTES];
+    match read_part(&mut expected) {
+        Size::Bytes(n) => {
+            if agrees(input, &expected[..n]) {
+                Outcome::Agrees
+            } else {
+                Outcome::Differs
+            }
+        }
+        Size::Malformed | Size::End => Outcome::Malformed,
+    }
+}
+
+// Reads a case and replays it.
+fn replay_case() -> Outcome {
+    let mut input = [0u8; MOST_BYTES];
+    match read_part(&mut input) {
+        Size::Bytes(n) => replay_input(&input[..n]),
+        Size::Malformed => Outcome::Malformed,
+        Size::End => Outcome::End,
+    }
+}
+
+// Prints "N cases, D differ", and what is wrong with the file, if anything is.
+fn print(cases: u64, differ: u64, fault: &[u8]) {
+    io::print_decimal(STDOUT_FILENO, cases);
+    io::write_all(STDOUT_FILENO, b" cases, ");
+    io::print_decimal(STDOUT_FILENO, differ);
+    io::write_all(STDOUT_FILENO, b" differ");
+    io::write_all(STDOUT_FILENO, fault);
+    io::write_all(STDOUT_FILENO, b"\n");
+}
+
+fn main() {
+    let mut cases: u64 = 0;
+    let mut differ: u64 = 0;
+    while cases < MOST_CASES {
+        match replay_case() {
+            Outcome::Agrees => {}
+            Outcome::Differs => {
+                differ += 1;
+            }
+            Outcome::Malformed => {
+                print(cases, differ, b", then a malformed case");
+                return;
+            }
+            Outcome::End => {
+                print(cases, differ, b"");
+                return;
+            }
+        }
+        cases += 1;
+    }
+    print(cases, differ, b", and more follow");
+}

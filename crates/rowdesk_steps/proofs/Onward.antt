@@ -1,0 +1,94 @@
+-- Every step leads from a sound state to a sound state, and there are not many.
+use mathlib.Core.Path.{_≡_, refl, sym, subst}
+use mathlib.Core.Bool.{true, cond, false≢true}
+use mathlib.Core.List.{List}
+use Prim.Native.Nat.{ℕ, _-_, _<_}
+use native.Mathlib.Omega.{arith}
+use borrow.Author.Tests.{leb-false, eqb-true}
+use lib.ListN.{length, replicate}
+use lib.Dec.{eqb, leb}
+use Rattle.refusals.specs.Refusal.{canonical, rowContents, maskContents}
+use Rattle.refusals.proofs.Laws.{canonical-below}
+use Rattle.table.specs.Rows.{Row}
+use Rattle.text.specs.Words.{words}
+use Rattle.rowdesk_steps.specs.Model.{blank, ended, acceptOf, rowOf, endOf, feedOf, masksOf, startOf, Stepped, Gives}
+use Rattle.rowdesk_steps.specs.Sound.{Sound, Onward}
+use Rattle.rowdesk_steps.specs.declared.State.{State}
+use Rattle.rowdesk_steps.specs.declared.Step.{Step}
+use Rattle.rowdesk_steps.proofs.Laws.{by-cases, words-length, row-is, masks-are}
+
+-- a state that ends is as sound as it was
+pub stops : (old s : State) → Sound s → Onward old (ended s)
+stops old s k = record {
+  sound = record { masks = k .masks; first = k .first; previous = k .previous; few = k .few };
+  rows = λ e. absurd (false≢true e);
+}
+
+module _ (s : State) (k : Sound s) where
+  abbrev Leads : Stepped → Type 0
+  Leads t = Onward s (t .state)
+
+  accept-leads : (row : List ℕ) → Row row → s .rows < 65536 → Leads (acceptOf s row)
+  unfolding acceptOf
+  accept-leads row r few =
+      by-cases Leads (eqb (s .rows) 0)
+      (λ e. record {
+        sound = record { masks = k .masks; first = r; previous = r; few = omega arith };
+        rows = λ _. let z = eqb-true (s .rows) 0 e in omega arith;
+      })
+      (λ e. record { sound = record { masks = k .masks; first = k .first; previous = r; few = omega arith }; rows = λ _. refl })
+
+  row-leads : (row : List ℕ) → length row ≡ 94 → Leads (rowOf s row)
+  unfolding rowOf
+  row-leads row l =
+      by-cases Leads (leb 65536 (s .rows)) (λ _. stops s s k)
+      (λ few. by-cases Leads (rowContents row .holds) (λ _. stops s s k) (λ e. accept-leads row (row-is row l e) (leb-false _ _ few)))
+
+  end-leads : Leads (endOf s)
+  unfolding endOf
+  end-leads = by-cases Leads (eqb (s .rows) 0) (λ _. stops s s k) (λ _. stops s s k)
+
+  feed-leads : (bytes : List ℕ) → Leads (feedOf s bytes)
+  unfolding feedOf
+  feed-leads bytes =
+      by-cases Leads (eqb (length bytes) 0) (λ _. end-leads)
+      (λ _. by-cases Leads (eqb (length bytes) 752) (λ _. row-leads (words 94 bytes) (words-length 94 bytes)) (λ _. stops s s k))
+
+  pub fed : (bytes : List ℕ) {r : Step} {out : List ℕ} → Gives (feedOf s bytes) r out → Gives (feedOf s bytes) r out × Onward s (r .state)
+  fed bytes g = (g, subst (Onward s) (sym (g .state-is)) (feed-leads bytes))
+
+-- the state that the masks leave
+abbrev SoundAfter : Stepped → Type 0
+SoundAfter t = Sound (t .state)
+
+zero-row : Row (replicate 94 0)
+unfolding canonical
+zero-row = record { size = refl; below = canonical-below (replicate 94 0) refl }
+
+blank-sound : Sound (ended blank)
+unfolding canonical
+blank-sound = record {
+  masks = record { size = refl; below = canonical-below (replicate 25 0) refl };
+  first = zero-row;
+  previous = zero-row;
+  few = omega arith;
+}
+
+start-sound : (bytes : List ℕ) → SoundAfter (startOf bytes)
+unfolding startOf masksOf
+start-sound bytes =
+    by-cases SoundAfter (eqb (length bytes) 200)
+    (λ _. by-cases SoundAfter (maskContents (words 25 bytes) .holds) (λ _. blank-sound)
+    (λ e. record { masks = masks-are (words 25 bytes) (words-length 25 bytes) e; first = zero-row; previous = zero-row; few = omega arith }))
+    (λ _. blank-sound)
+
+pub started : (bytes : List ℕ) {r : Step} {out : List ℕ} → Gives (startOf bytes) r out → Gives (startOf bytes) r out × Sound (r .state)
+started bytes g = (g, subst Sound (sym (g .state-is)) (start-sound bytes))
+
+-- how many steps may follow: a step leaves fewer
+abbrev pub left : State → ℕ
+left s = cond (s .running) (65537 - s .rows) 0
+
+pub left-less : (s t : State) → Sound s → s .running ≡ true → Onward s t → left t < left s
+left-less s t k e o =
+    rw e (by-cases (λ (n : ℕ). n < 65537 - s .rows) (t .running) (λ r. let h = o .rows r in omega (arith, k .few)) (λ _. omega (arith, k .few)))

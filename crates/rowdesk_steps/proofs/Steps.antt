@@ -1,0 +1,53 @@
+-- The steps of the model, one after the other: their number is no limit.
+use mathlib.Core.Path.{_≡_, refl, sym, ap, _∙_}
+use mathlib.Core.Bool.{Bool, true, false}
+use mathlib.Core.List.{List, [], _∷_, _++_}
+use Prim.Native.Nat.{ℕ, zero, suc, _-_, _<_}
+use native.Mathlib.Omega.{arith}
+use lib.ListN.{length, take, drop, length-drop}
+use lib.Dec.{eqb}
+use Rattle.rowdesk_steps.specs.Model.{Stepped, feedOf, endOf, stepsOf, rowsOf}
+use Rattle.rowdesk_steps.specs.declared.State.{State}
+use Rattle.rowdesk_steps.proofs.Laws.{by-cases}
+
+-- a state that has ended prints nothing more
+pub ended-steps : (k : ℕ) (s : State) (input : List ℕ) → s .running ≡ false → stepsOf k s input ≡ []
+unfolding stepsOf
+ended-steps zero s input e = refl
+ended-steps (suc k) s input e = rw e
+
+-- the end of the input ends it
+feed-none : (s : State) → feedOf s [] .state .running ≡ false
+unfolding feedOf endOf
+feed-none s = by-cases (λ (t : Stepped). t .state .running ≡ false) (eqb (s .rows) 0) (λ _. refl) (λ _. refl)
+
+-- with more steps than bytes, their number does not matter
+module _ (s : State) where
+  after-none : (k m : ℕ) → stepsOf k (feedOf s [] .state) [] ≡ stepsOf m (feedOf s [] .state) []
+  after-none k m = ended-steps k _ [] (feed-none s) ∙ sym (ended-steps m _ [] (feed-none s))
+
+enough : (k m : ℕ) (s : State) (input : List ℕ) → length input < k → length input < m → stepsOf k s input ≡ stepsOf m s input
+unfolding stepsOf
+enough zero m s input h q = absurd (omega arith)
+enough (suc k) zero s input h q = absurd (omega arith)
+enough (suc k) (suc m) s [] h q = ap (λ (l : List ℕ). elim (s .running) [ true ↦ feedOf s [] .text ++ l | false ↦ [] ]) (after-none s k m)
+enough (suc k) (suc m) s (x ∷ xs) h q =
+    let d : length (drop 752 (x ∷ xs)) ≡ length (x ∷ xs) - 752 = length-drop 752 (x ∷ xs) in
+    ap (λ (l : List ℕ). elim (s .running) [ true ↦ feedOf s (take 752 (x ∷ xs)) .text ++ l | false ↦ [] ])
+    (enough k m (feedOf s (take 752 (x ∷ xs)) .state) (drop 752 (x ∷ xs)) (omega arith) (omega arith))
+
+-- all steps are one step, then all steps of what is left
+rest-enough : (s : State) (input : List ℕ)
+    → stepsOf (length input) (feedOf s (take 752 input) .state) (drop 752 input) ≡ rowsOf (feedOf s (take 752 input) .state) (drop 752 input)
+rest-enough s [] = after-none s 0 1
+rest-enough s (x ∷ xs) =
+    let d : length (drop 752 (x ∷ xs)) ≡ length (x ∷ xs) - 752 = length-drop 752 (x ∷ xs) in
+    enough (length (x ∷ xs)) (suc (length (drop 752 (x ∷ xs)))) (feedOf s (take 752 (x ∷ xs)) .state) (drop 752 (x ∷ xs)) (omega arith) (omega arith)
+
+pub rows-step : (s : State) (input : List ℕ) → s .running ≡ true
+    → rowsOf s input ≡ feedOf s (take 752 input) .text ++ rowsOf (feedOf s (take 752 input) .state) (drop 752 input)
+unfolding stepsOf
+rows-step s input e =
+    let x = feedOf s (take 752 input) .text in
+    ap (λ (t : Bool). elim t [ true ↦ x ++ stepsOf (length input) (feedOf s (take 752 input) .state) (drop 752 input) | false ↦ [] ]) e
+    ∙ ap (λ (l : List ℕ). x ++ l) (rest-enough s input)

@@ -1,0 +1,34 @@
+-- `rowdesk_steps::feed` meets its contract.
+use borrow.Author.Needs.{needs}
+use borrow.Author.Tests.{eq-eqb, ne-eqb}
+use Rattle.rowdesk_steps.specs.Model.{feedOf}
+use Rattle.rowdesk_steps.proofs.Onward.{fed}
+use Rattle.rowdesk_steps.proofs.feed.Statement.{statement}
+use Rattle.rowdesk_steps.proofs.feed.Tie as tie
+
+returns : tie.Need-returns
+unfolding feedOf
+returns c =
+    let a = c .before .before .before .before in
+    fed (a .args .s) (a .pre) (a .args .bytes .now) (rw (eq-eqb _ _ (c .before .before .if1 .taken)) (c .finish .ensures))
+
+returns-2 : tie.Need-returns-2
+unfolding feedOf
+returns-2 c =
+    let d = c .before .before .before in
+    let t = d .before .before in
+    let a = t .before .before .before in
+    fed (a .args .s) (a .pre) (a .args .bytes .now)
+    (rw (ne-eqb _ _ (t .before .if1 .left), eq-eqb _ _ (t .if2 .taken), ← d .decode .ensures) (c .whole-row .ensures))
+
+returns-3 : tie.Need-returns-3
+unfolding feedOf
+returns-3 c =
+    let t = c .before .before in
+    let a = t .before .before .before in
+    fed (a .args .s) (a .pre) (a .args .bytes .now) (rw (ne-eqb _ _ (t .before .if1 .left), ne-eqb _ _ (t .if2 .left)) (c .refuse .ensures))
+
+pub feed-spec : {M : Type 1} → statement M
+feed-spec =
+    tie.close
+    (tie.spec (λ c κs. search needs) returns (λ c. search needs) (λ c κs. search needs) (λ c κs. search needs) returns-2 (λ c κs. search needs) returns-3)

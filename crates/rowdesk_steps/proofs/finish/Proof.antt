@@ -1,0 +1,29 @@
+-- `rowdesk_steps::finish` meets its contract.
+use mathlib.Core.Path.{refl}
+use lib.Dec.{lit<}
+use borrow.Author.Needs.{needs}
+use borrow.Author.Tests.{eq-eqb, ne-eqb}
+use Rattle.rowdesk_steps.specs.Model.{endOf}
+use Rattle.rowdesk_steps.proofs.finish.Statement.{statement}
+use Rattle.rowdesk_steps.proofs.finish.Tie as tie
+
+returns : tie.Need-returns
+unfolding endOf
+returns c =
+    let k = c .before .before in
+    rw (eq-eqb _ _ (k .before .before .if1 .taken)) (k .refuse .ensures)
+
+pair-line-requires : tie.Need-pair-line-requires
+pair-line-requires c κs =
+    let s = c .before .before .before .before .before .before in
+    (s .pre .0, (s .pre .1, (s .pre .1 .first, (lit< tt, search needs))))
+
+returns-2 : tie.Need-returns-2
+unfolding endOf
+returns-2 c =
+    let k = c .before .before in
+    let p = k .pair-line .ensures in
+    rw (ne-eqb _ _ (k .before .before .before .before .if1 .left)) (record { state-is = refl; text-is = p .0; counts = p .1 })
+
+pub finish-spec : {M : Type 1} → statement M
+finish-spec = tie.close (tie.spec (λ c κs. search needs) (λ c. search needs) returns pair-line-requires (λ c. search needs) returns-2)

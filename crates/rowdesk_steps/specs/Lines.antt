@@ -1,0 +1,57 @@
+-- The lines that rowdesk prints, as bytes of ASCII.
+use mathlib.Core.Bool.{cond}
+use mathlib.Core.List.{List, [], _∷_, _++_}
+use Prim.Native.Nat.{ℕ, suc}
+use lib.Dec.{eqb}
+use Rattle.tally.specs.Tally.{nonzeros, firstFrom}
+use Rattle.runs.specs.declared.Spot.{Spot}
+use Rattle.runs.specs.declared.Spot.the-variants.{Clean, At}
+use Rattle.text.specs.Decimal.{decimalOf}
+
+abbrev pub space : List ℕ
+space = 32 ∷ []
+
+abbrev pub lineEnd : List ℕ
+lineEnd = 10 ∷ []
+
+-- "index, count of nonzero values, lowest such number or 0, as one decimal line with one space between" (document 01)
+unfoldable pub lineOf : ℕ → ℕ → ℕ → List ℕ
+lineOf index count lowest = decimalOf index ++ space ++ decimalOf count ++ space ++ decimalOf lowest ++ lineEnd
+
+-- the line of pair i, of which these are the values
+abbrev pub lineOfPair : ℕ → List ℕ → List ℕ
+lineOfPair i vs = lineOf i (nonzeros vs) (firstFrom 1 vs)
+
+-- "refused" and a space
+abbrev pub refusedWord : List ℕ
+refusedWord = 114 ∷ 101 ∷ 102 ∷ 117 ∷ 115 ∷ 101 ∷ 100 ∷ 32 ∷ []
+
+-- "one line, "refused", a space and the number"
+unfoldable pub refusedOf : ℕ → List ℕ
+refusedOf number = refusedWord ++ decimalOf number ++ lineEnd
+
+-- what the line of a pair says
+pub record Line : Type 0 where
+  pub index : ℕ
+  pub count : ℕ
+  pub lowest : ℕ
+
+-- the lines of pairs of which these are the values; the first of the list is pair i
+unfoldable pub linesFrom : ℕ → List (List ℕ) → List Line
+linesFrom i [] = []
+linesFrom i (vs ∷ pairs) = record { index = i; count = nonzeros vs; lowest = firstFrom 1 vs } ∷ linesFrom (suc i) pairs
+
+-- the text of lines, one behind the other
+unfoldable pub textOf : List Line → List ℕ
+textOf [] = []
+textOf (l ∷ lines) = lineOf (l .index) (l .count) (l .lowest) ++ textOf lines
+
+-- of how many lines the count is not 0
+unfoldable pub failingLines : List Line → ℕ
+failingLines [] = 0
+failingLines (l ∷ lines) = cond (eqb (l .count) 0) (failingLines lines) (suc (failingLines lines))
+
+-- the index and the lowest number of the first such line
+unfoldable pub firstFailing : List Line → Spot
+firstFailing [] = Clean
+firstFailing (l ∷ lines) = cond (eqb (l .count) 0) (firstFailing lines) (At (l .index) (l .lowest))

@@ -1,0 +1,106 @@
+-- Demand 3, of the call that folds a pair: a pair of canonical rows with plain flags keeps every rule of the rulebook exactly when it
+-- folds from zero to zero under more than 225 of the p alphas, and it then does so under all p.
+use mathlib.Core.Path.{_≡_, refl, sym, ap, _∙_}
+use mathlib.Core.Logic.{_↔_}
+use mathlib.Core.Bool.{true}
+use mathlib.Core.List.{List, [], _∷_, map}
+use Prim.Native.Nat.{ℕ, suc, _<_, _≤_}
+use native.Mathlib.Omega.{arith}
+use lib.ListN.{length, getD}
+use lib.Dec.{T, ltb}
+use borrow.Author.Tests.{lt-ltb, eq-eqb}
+use Rattle.algebra.specs.Prime.{p}
+use Rattle.algebra.specs.Fold.{fold}
+use Rattle.algebra.specs.Lists.{All}
+use Rattle.algebra.proofs.Lists.{all-both, below, length-map-below, all-map-below, nodup-map-below}
+use Rattle.refusals.specs.Refusal.{canonical}
+use Rattle.residue.specs.Residues.{residues}
+use Rattle.table.specs.Cells.{Cell, cells}
+use Rattle.table.specs.Rows.{Row}
+use Rattle.table.specs.Entry.{Entry, weightedBy, values}
+use Rattle.table.specs.Table.{table, pairValues}
+use Rattle.table.proofs.Numbers.{table-length}
+use Rattle.parts.proofs.Written.{length-values}
+use Rattle.rulebook.specs.Plain.{isFirst, isLast, Accepted, pairKeeps, pairPlain}
+use Rattle.rulebook.proofs.Tests.{all, and-left, and-right}
+use Rattle.rulebook.proofs.Cells.{line}
+use Rattle.rulebook.proofs.Weights.{reads-rows, fair, value-lt}
+use Rattle.rulebook.proofs.Pair.{fair-table, pair, same-rows, canonical-cells}
+use Rattle.rulebook.proofs.Theorem.{values-of-rules, rules-of-values}
+use Rattle.consumer.specs.Yielded.{folds}
+use Rattle.pair_fold.specs.PairFold.{pairFoldRefusal, pairFoldAccumulators}
+use Rattle.theorems.specs.ManyFold.{FoldsToZero, Many}
+use Rattle.theorems.proofs.Roots.{zero-values, zeros-fold}
+
+-- numbers that are below p at every place are canonical
+pub canonical-of : (l : List ℕ) → ((i : ℕ) → getD l i 0 < p) → canonical l ≡ true
+unfolding canonical
+canonical-of [] h = refl
+canonical-of (x ∷ xs) h = rw (lt-ltb x p (h 0), canonical-of xs (λ i. h (suc i)))
+
+-- every value of a pair is canonical
+values-below : (x y : Cell → ℕ) (same : (c : Cell) → ltb (line c) 3 ≡ true → x c ≡ y c) (canon : (c : Cell) → y c < p) (es : List Entry) → all fair es ≡ true →
+    All (λ v. v < p) (values residues y es)
+unfolding values
+values-below x y same canon [] h = tt
+values-below x y same canon (e ∷ es) h =
+    (value-lt x y same canon (weightedBy (e .kind) (e .expr)) (and-right (reads-rows (e .expr)) _ (and-left (fair e) (all fair es) h)), values-below x y same canon es (and-right (fair e) _ h))
+
+pub values-count : (masks lv nv : List ℕ) (z f : ℕ) → length (pairValues masks lv nv z f) ≡ 226
+unfolding pairValues
+values-count masks lv nv z f = length-values (cells masks lv nv z f) table ∙ table-length
+
+-- Let masks be accepted, both rows canonical, their flags plain, and both weights canonical. The row is first where
+-- lagrange_basis_first (f) is not 0, and last where z_last (z) is 0.
+module _ (masks lv nv : List ℕ) (z f : ℕ) (accepted : Accepted masks) (row : Row lv) (next-row : Row nv) (plain : pairPlain lv nv ≡ true)
+    (z-below : z < p) (f-below : f < p) where
+  -- the call with one alpha below p and the accumulator 0 is not turned back, and its answer is the fold of the values
+  not-refused : (alpha : ℕ) → alpha < p → pairFoldRefusal masks lv nv z f (alpha ∷ []) (0 ∷ []) ≡ 0
+  unfolding pairFoldRefusal canonical
+  not-refused alpha h =
+      simp (row .size, next-row .size, accepted .size, canonical-of lv (row .below), canonical-of nv (next-row .below), accepted .below, accepted .differ, lt-ltb _ _ z-below, lt-ltb _ _ f-below, lt-ltb _ _ h)
+
+  folded : (alpha : ℕ) → alpha < p → pairFoldAccumulators masks lv nv z f (alpha ∷ []) (0 ∷ []) ≡ fold residues alpha 0 (pairValues masks lv nv z f) ∷ []
+  unfolding pairFoldAccumulators folds
+  folded alpha h = simp (eq-eqb _ _ (not-refused alpha h))
+
+  values-canonical : All (λ v. v < p) (pairValues masks lv nv z f)
+  unfolding pairValues
+  values-canonical =
+      values-below (pair masks lv nv) (cells masks lv nv z f) (same-rows masks lv nv z f)
+      (canonical-cells masks lv nv accepted row next-row z f z-below f-below) table fair-table
+
+  -- a pair that keeps every rule folds from zero to zero under every alpha
+  pub folds-under-all : T (pairKeeps masks lv nv (isFirst f) (isLast z)) → (alpha : ℕ) → alpha < p → FoldsToZero masks lv nv z f alpha
+  folds-under-all k alpha h = (
+    not-refused alpha h,
+    folded alpha h
+        ∙ ap (λ (a : ℕ). a ∷ []) (zeros-fold alpha (pairValues masks lv nv z f) (values-of-rules masks lv nv z f accepted row next-row plain z-below f-below k)),
+  )
+
+  -- and so under more than 225: under 0, 1, .., 225
+  pub many-of-rules : T (pairKeeps masks lv nv (isFirst f) (isLast z)) → Many (FoldsToZero masks lv nv z f)
+  many-of-rules k =
+      record {
+        alphas = map (λ n. n) (below 226);
+        below = all-map-below (λ n. n) (λ a. a < p) 226 (λ i h. omega arith);
+        distinct = nodup-map-below (λ n. n) 226 (λ i j h l e. omega arith);
+        many = omega (arith, length-map-below (λ (n : ℕ). n) 226);
+        each = all-map-below (λ n. n) (FoldsToZero masks lv nv z f) 226 (λ i h. folds-under-all k i (omega arith));
+      }
+
+  -- a pair that folds from zero to zero under more than 225 alphas keeps every rule
+  pub rules-of-many : Many (FoldsToZero masks lv nv z f) → T (pairKeeps masks lv nv (isFirst f) (isLast z))
+  rules-of-many m =
+      rules-of-values masks lv nv z f accepted row next-row plain z-below f-below
+      (zero-values (m .alphas) (pairValues masks lv nv z f) (m .below) values-canonical (m .distinct) enough
+      (all-both (λ alpha h e. head-is (sym (folded alpha h) ∙ e .1)) (m .alphas) (m .below) (m .each)))
+    where
+      head-is : {a b : ℕ} → _≡_ {A = List ℕ} (a ∷ []) (b ∷ []) → a ≡ b
+      head-is e = ap (λ (l : List ℕ). getD l 0 0) e
+
+      enough : length (pairValues masks lv nv z f) ≤ length (m .alphas)
+      enough = omega (arith, values-count masks lv nv z f, m .many)
+
+  pub demand-3 : T (pairKeeps masks lv nv (isFirst f) (isLast z)) ↔ Many (FoldsToZero masks lv nv z f)
+  demand-3 = (many-of-rules, rules-of-many)

@@ -1,0 +1,6 @@
+pub mod Roots
+pub mod Demand3
+pub mod ByConsumer
+pub mod Chain
+pub mod Blocks
+pub mod Rowdesk

@@ -1,0 +1,147 @@
+//! Compares a program with what it has to print.
+
+use fields::{Plain, Plonky2Style, Residue, P};
+use olavm::{Reference, COLUMNS};
+use pairs::{Rng, Run, MAX_ROWS};
+use tally::{same, Tally};
+
+use crate::cases::{self, Case};
+use crate::due;
+use crate::expected;
+use crate::input::{of_run, MASK_BYTES, ROW_BYTES};
+use crate::program::{Chunks, Program};
+
+/// The sizes in which inputs are delivered.
+const CHUNKS: [Chunks; 7] = [
+    Chunks::Of(1),
+    Chunks::Of(7),
+    Chunks::Of(751),
+    Chunks::Of(753),
+    Chunks::Of(4096),
+    Chunks::Random(1),
+    Chunks::Random(2),
+];
+
+/// How much is compared.
+#[derive(Clone, Copy, Debug)]
+pub struct Amounts {
+    /// Random inputs.
+    pub inputs: u64,
+    /// The most rows of such an input.
+    pub rows: usize,
+    /// Whether inputs at the limit of 65,536 rows are compared too.
+    pub limits: bool,
+}
+
+/// A comparison under way.
+struct Comparison<'a> {
+    program: &'a Program,
+    rust: Reference,
+    tally: Tally,
+}
+
+/// Compares everything; each random input follows from its seed, and the seeds from the first.
+pub fn everything(program: &Program, rust: Reference, seed: u64, amounts: Amounts) -> Tally {
+    let mut comparison = Comparison {
+        program,
+        rust,
+        tally: Tally::default(),
+    };
+    for case in cases::fixed() {
+        comparison.case::<Plain>("fixed inputs", &case, Chunks::Whole);
+    }
+    for n in 0..amounts.inputs {
+        let case = cases::random(seed.wrapping_add(n), amounts.rows);
+        comparison.case::<Plonky2Style>("random inputs", &case, Chunks::Whole);
+    }
+    comparison.chunks();
+    comparison.due(seed);
+    if amounts.limits {
+        comparison.limits(seed);
+    }
+    comparison.tally
+}
+
+impl Comparison<'_> {
+    fn case<F: Residue>(&mut self, class: &str, case: &Case, chunks: Chunks) {
+        let due = expected::output::<F>(self.rust, &case.input);
+        let output = self.program.output(&case.input, chunks);
+        let outcome = output.and_then(|output| same_lines(&output, &due));
+        let told = |difference| format!("{}, {chunks:?}: {difference}", case.name);
+        self.tally.note(class, outcome.map_err(told));
+    }
+
+    /// Inputs that a pipe delivers in odd sizes.
+    fn chunks(&mut self) {
+        for chunks in CHUNKS {
+            for case in cases::one_of_each_sort() {
+                self.case::<Plain>("odd chunks", &case, chunks);
+            }
+        }
+    }
+
+    /// Lines that are there when they are due.
+    fn due(&mut self, seed: u64) {
+        let mut rng = Rng::new(seed);
+        for rows in [1, 2, 3, 40, 200] {
+            let mut run = Run::draw(&mut rng, rows);
+            run.damage(&mut rng);
+            let outcome = due::of_pairs(self.program, self.rust, &run);
+            let is_late = outcome.is_err();
+            self.tally.note("lines when due", outcome);
+            // There is no need to wait for another.
+            if is_late {
+                return;
+            }
+        }
+        let mut run = Run::draw(&mut rng, 3);
+        run.rows[2][COLUMNS - 1] = P;
+        let bad_row = of_run(&run);
+        run.masks[0] = P;
+        let bad_masks = &of_run(&run)[..MASK_BYTES];
+        for input in [&bad_row[..], bad_masks] {
+            let outcome = due::of_refusal(self.program, self.rust, input);
+            self.tally.note("refusals when due", outcome);
+        }
+    }
+
+    /// 65,536 rows, kept and damaged, and one row or part of one more.
+    fn limits(&mut self, seed: u64) {
+        let mut rng = Rng::new(seed);
+        let mut run = Run::draw(&mut rng, MAX_ROWS);
+        let kept = of_run(&run);
+        run.damage(&mut rng);
+        let damaged = of_run(&run);
+        let more = |name: &str, more: &[u8]| Case {
+            name: name.into(),
+            input: [&damaged[..], more].concat(),
+        };
+        let kept = Case {
+            name: "kept".into(),
+            input: kept,
+        };
+        let cases = [
+            kept,
+            more("damaged", &[]),
+            more("a byte more", &[0]),
+            more("a 65,537th row", &[0; ROW_BYTES]),
+            more("a 65,537th row that is bad", &[255; ROW_BYTES]),
+        ];
+        for case in cases {
+            self.case::<Plonky2Style>("65,536 rows", &case, Chunks::Whole);
+        }
+    }
+}
+
+/// Whether two outputs are the same to the byte; the difference names the first other line.
+fn same_lines(output: &str, due: &str) -> Result<(), String> {
+    if output == due {
+        return Ok(());
+    }
+    let mut lines = output.split_inclusive('\n');
+    for (i, due) in due.split_inclusive('\n').enumerate() {
+        same(lines.next(), Some(due))
+            .map_err(|difference| format!("line {}: {difference}", i + 1))?;
+    }
+    same(lines.next(), None)
+}

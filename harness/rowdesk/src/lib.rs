@@ -1,0 +1,15 @@
+//! What the program rowdesk has to print, and the comparison of a program with it.
+
+pub mod cases;
+pub mod comparison;
+pub mod container;
+mod due;
+pub mod expected;
+pub mod input;
+pub mod plain;
+mod program;
+pub mod samples;
+mod session;
+
+pub use cases::Case;
+pub use program::{built, Chunks, Program};
