@@ -41,9 +41,9 @@ use denote.Triple.Spec.{Meets, tripleOf}
 use denote.Triple.Clauses.{Ended, Clauses, closing, ensured, lasts}
 use denote.Triple.Walked.{says, Stays, stay-none, walkOf, goes-none, Walks, ends-at, walked, walk-meets}
 use denote.Exit.{yes}
-use Rattle.residue.specs.declared.checked.Residue.{Residue}
-use Rattle.residue.proofs.checked.Residue as S
-use Rattle.residue.proofs.checked.Residue.Laws as S′
+use Rattle.checked_residue.specs.declared.Residue.{Residue}
+use Rattle.checked_residue.proofs.Residue as S
+use Rattle.checked_residue.proofs.Residue.Laws as S′
 use Rattle.adjacent_rows.specs.declared.CpuAdjacentRowWrapper.{CpuAdjacentRowWrapper}
 use Rattle.adjacent_rows.proofs.CpuAdjacentRowWrapper as T
 use Rattle.adjacent_rows.proofs.CpuAdjacentRowWrapper.Laws as T′

@@ -1,13 +1,11 @@
 // The adjacent rows of cpu_stark.rs: a record that refers to both lent rows, over a core that takes the
-// rows plainly (crate pair).
+// rows plainly (crates row_values and pair).
 ghost use mathlib.Core.Path.{_≡_};
 ghost use lib.ListN.{length};
 ghost use Rattle.table.specs.CpuStark.{lv-is-ext-inst, lv-ext-length};
-ghost use Rattle.adjacent_rows.specs.RowValue.{rowValue};
-ghost use Rattle.pair.specs.PairValues.{pairValuesRefusal, pairValuesBuffer};
-use residue::checked::Residue;
-
-pub mod row;
+ghost use Rattle.row_values.specs.RowValue.{rowValue};
+ghost use Rattle.pair_checks.specs.PairValues.{pairValuesRefusal, pairValuesBuffer};
+use checked_residue::Residue;
 
 pub struct CpuAdjacentRowWrapper<'a, 'b> {
     pub lv: &'a [u64],
@@ -25,13 +23,13 @@ impl<'a, 'b> CpuAdjacentRowWrapper<'a, 'b> {
     pub fn lv_is_ext_inst(self) -> Residue
         ensures { λ r. ⌜ r ≡ rowValue lv-is-ext-inst (now (self .entry .lv)) ⌝ }
     {
-        row::is_ext_inst(self.lv)
+        row_values::is_ext_inst(self.lv)
     }
 
     pub fn lv_ext_length(self) -> Residue
         ensures { λ r. ⌜ r ≡ rowValue lv-ext-length (now (self .entry .lv)) ⌝ }
     {
-        row::ext_length(self.lv)
+        row_values::ext_length(self.lv)
     }
 
     // The 226 values of the two rows, as `pair::pair_values` writes them.

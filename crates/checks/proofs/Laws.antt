@@ -8,9 +8,9 @@ use lib.ListN.{length, getD, drop}
 use lib.Dec.{ltb}
 use borrow.Author.Tests.{not-false}
 use Rattle.algebra.specs.Prime.{p}
-use Rattle.refusals.specs.Refusal.{lowest, sizes, contents, canonical}
+use Rattle.refusals.specs.Refusal.{lowest, maskContents, rowContents, sizes, contents, canonical}
 use Rattle.refusals.proofs.Laws.{clear, length-is, canonical-below, none-true, canonical-at}
-use Rattle.table.specs.Rows.{Rows, Masks}
+use Rattle.table.specs.Rows.{Row, Rows, Masks}
 
 -- of a test r of the definition b, denied by `!`
 pub denied : {r b : Bool} → r ≡ b → not r ≡ true → not b ≡ true
@@ -19,28 +19,29 @@ denied e t = ap not (sym e) ∙ t
 pub kept : {r b : Bool} → r ≡ b → not r ≡ false → not b ≡ false
 kept e t = ap not (sym e) ∙ t
 
--- masks and rows that are not turned back are as the core asks
+-- what is not turned back is as the core asks: a row, masks, and masks and a pair of rows together
+pub accepted-row : (row : List ℕ) → length row ≡ 94 → rowContents row .holds ≡ false → Row row
+accepted-row row l e = record { size = l; below = canonical-below row (not-false (canonical row) e) }
+
+pub accepted-masks : (masks : List ℕ) → length masks ≡ 25 → maskContents masks .holds ≡ false → Masks masks
+accepted-masks masks l e = record { size = l; below = canonical-below masks (not-false (canonical masks) (none-true _ _ e .0)) }
+
 module _ (masks lv nv : List ℕ) (s : lowest (sizes masks lv nv) ≡ 0) where
   pub masks-length : length masks ≡ 25
   masks-length = length-is _ _ (clear (sizes masks lv nv) tt s .1 .1 .0)
 
   module _ (k : lowest (contents masks lv nv) ≡ 0) where
-    canonical-is : (l : List ℕ) → not (canonical l) ≡ false → (i : ℕ) → getD l i 0 < p
-    canonical-is l e = canonical-below l (not-false (canonical l) e)
-
     pub rows-are : Rows lv nv
     rows-are =
         let a = clear (sizes masks lv nv) tt s in
         let b = clear (contents masks lv nv) tt k in
         record {
-          local = record { size = length-is _ _ (a .0); below = canonical-is lv (b .1 .0) };
-          next = record { size = length-is _ _ (a .1 .0); below = canonical-is nv (b .1 .1 .0) };
+          local = accepted-row lv (length-is _ _ (a .0)) (b .1 .0);
+          next = accepted-row nv (length-is _ _ (a .1 .0)) (b .1 .1 .0);
         }
 
     pub masks-are : Masks masks
-    masks-are =
-        let b = clear (contents masks lv nv) tt k in
-        record { size = masks-length; below = canonical-is masks (none-true _ _ (b .0) .0) }
+    masks-are = accepted-masks masks masks-length (clear (contents masks lv nv) tt k .0)
 
 -- four numbers, and those behind them
 pub canonical-four : (a : List ℕ) (i : ℕ) → i + 4 ≤ length a →

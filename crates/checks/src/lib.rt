@@ -110,10 +110,7 @@ pub fn contents(masks: &[u64], lv: &[u64], nv: &[u64]) -> u64
     requires { ⌜ length (now masks) ≡ 25 ⌝ }
     ensures { λ r. ⌜ r ≡ lowest (contentConditions (now (masks .entry)) (now (lv .entry)) (now (nv .entry))) ⌝ }
 {
-    if !canonical(masks) {
-        return MASK_CONTENTS;
-    }
-    if !distinct(&masks[0..5]) {
+    if mask_contents(masks) {
         return MASK_CONTENTS;
     }
     if !canonical(lv) {

@@ -8,20 +8,23 @@ ghost use Rattle.table.specs.Cells.{cells};
 ghost use Rattle.table.specs.Rows.{Rows};
 ghost use Rattle.table.specs.Entry.{values};
 ghost use Rattle.table.specs.CallSc.{call-sc-addresses, call-sc-operands};
+ghost use Rattle.cpu_factors.specs.Factors.{Given};
+use cpu_factors::CALL_SC_MAIN_LINE;
 use residue::below::sub;
 use residue::mul;
 use table::columns::*;
 
 // 185 to 192: sccall ext line, op0_reg_sel[0~3] is caller storage addr, op0_reg_sel[4~7] is
 // caller code addr
-pub fn call_sc_addresses(lv: &[u64], nv: &[u64]) -> [u64; 8]
-    requires { ⌜ Rows (now lv) (now nv) ⌝ }
+pub fn call_sc_addresses(lv: &[u64], nv: &[u64], factors: &[u64]) -> [u64; 8]
+    requires rows { ⌜ Rows (now lv) (now nv) ⌝ }
+    requires factors { ⌜ Given (now lv) (now factors) ⌝ }
     ensures { λ r. ⌜ r ≡ values residues (cells [] (now (lv .entry)) (now (nv .entry)) 0 0) call-sc-addresses ⌝ }
 {
     let addr_storage = &lv[COL_ADDR_STORAGE_RANGE_START..COL_ADDR_STORAGE_RANGE_END];
     let addr_code = &lv[COL_ADDR_CODE_RANGE_START..COL_ADDR_CODE_RANGE_END];
     let op0_reg_sel = &nv[COL_S_OP0_START..COL_S_OP0_END];
-    let on_main_line = mul(lv[COL_S_CALL_SC], sub(1, lv[COL_IS_EXT_LINE]));
+    let on_main_line = factors[CALL_SC_MAIN_LINE];
     [
         mul(on_main_line, sub(op0_reg_sel[0], addr_storage[0])),
         mul(on_main_line, sub(op0_reg_sel[1], addr_storage[1])),
@@ -35,13 +38,14 @@ pub fn call_sc_addresses(lv: &[u64], nv: &[u64]) -> [u64; 8]
 }
 
 // 193 to 196: the operands in the ext line of sccall and of end
-pub fn call_sc_operands(lv: &[u64], nv: &[u64], z_last: u64) -> [u64; 4]
+pub fn call_sc_operands(lv: &[u64], nv: &[u64], z_last: u64, factors: &[u64]) -> [u64; 4]
     requires rows { ⌜ Rows (now lv) (now nv) ⌝ }
     requires weight { ⌜ «z_last» < p ⌝ }
+    requires factors { ⌜ Given (now lv) (now factors) ⌝ }
     ensures { λ r. ⌜ r ≡ values residues (cells [] (now (lv .entry)) (now (nv .entry)) «z_last» 0) call-sc-operands ⌝ }
 {
     let is_crossing_inst = lv[COL_IS_NEXT_LINE_DIFF_INST];
-    let on_main_line = mul(lv[COL_S_CALL_SC], sub(1, lv[COL_IS_EXT_LINE]));
+    let on_main_line = factors[CALL_SC_MAIN_LINE];
     let to_end_ext = mul(mul(lv[COL_S_END], sub(1, is_crossing_inst)), z_last);
     [
         // op0, op1 all same as main line

@@ -6,8 +6,8 @@ ghost use Rattle.table.specs.Rows.{Rows};
 ghost use Rattle.table.specs.Cells.{cells};
 ghost use Rattle.table.specs.Entry.{values};
 ghost use Rattle.table.specs.CpuStark.{ext-lines-counts, ext-lines-opcode, ext-lines-selectors, ext-lines-op1-imm};
+ghost use Rattle.cpu_wrapper.specs.Length.{Length};
 use cpu_wrapper::wrapper::is_ext_inst;
-use cpu_wrapper::wrapper::lv_ext_length;
 use residue::below::sub;
 use residue::mul;
 use table::columns::*;
@@ -15,15 +15,16 @@ use table::columns::*;
 // Past the last opcode selector.
 const OP_SELECTORS_END: usize = COL_S_SIMPLE_ARITHMATIC_OP + NUM_OP_SELECTOR;
 
-pub fn ext_lines_counts(lv: &[u64], nv: &[u64]) -> [u64; 4]
-    requires { ⌜ Rows (now lv) (now nv) ⌝ }
+pub fn ext_lines_counts(lv: &[u64], nv: &[u64], ext_length: u64) -> [u64; 4]
+    requires rows { ⌜ Rows (now lv) (now nv) ⌝ }
+    requires length { ⌜ Length (now lv) «ext_length» ⌝ }
     ensures { λ r. ⌜ r ≡ values residues (cells [] (now (lv .entry)) (now (nv .entry)) 0 0) ext-lines-counts ⌝ }
 {
     let lv_is_ext_inst = is_ext_inst(lv);
     let nv_is_ext_inst = is_ext_inst(nv);
     let lv_is_ext_line = lv[COL_IS_EXT_LINE];
     let nv_is_ext_line = nv[COL_IS_EXT_LINE];
-    let missing_ext_lines = sub(lv_ext_length(lv), lv[COL_EXT_CNT]);
+    let missing_ext_lines = sub(ext_length, lv[COL_EXT_CNT]);
     let ext_cnt_diff = sub(nv[COL_EXT_CNT], lv[COL_EXT_CNT]);
     [
         // constraint is_ext_line

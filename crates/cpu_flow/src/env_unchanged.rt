@@ -9,6 +9,7 @@ ghost use Rattle.table.specs.Cells.{cells};
 ghost use Rattle.table.specs.Rows.{Row, Rows};
 ghost use Rattle.table.specs.Entry.{values};
 ghost use Rattle.table.specs.CpuStark.{constraint-env-unchanged-clk, instruction-size, pc-next, constraint-env-unchanged-pc};
+ghost use Rattle.cpu_flow.specs.Clk.{clk-kept};
 use residue::below::add;
 use residue::below::sub;
 use residue::mul;
@@ -76,21 +77,18 @@ pub fn pc_next(lv: &[u64]) -> u64
     reduced(plus_product(with_call, s_ret, lv[COL_DST]))
 }
 
-// 147 to 149 (J)
-pub fn constraint_env_unchanged_pc(lv: &[u64], nv: &[u64]) -> [u64; 3]
-    requires { ⌜ Rows (now lv) (now nv) ⌝ }
+// 147 to 149 (J); 147 is 145 again
+pub fn constraint_env_unchanged_pc(lv: &[u64], nv: &[u64], clk_kept: u64) -> [u64; 3]
+    requires rows { ⌜ Rows (now lv) (now nv) ⌝ }
+    requires clk { ⌜ «clk_kept» ≡ eval residues (cells [] (now lv) (now nv) 0 0) clk-kept ⌝ }
     ensures { λ r. ⌜ r ≡ values residues (cells [] (now (lv .entry)) (now (nv .entry)) 0 0) constraint-env-unchanged-pc ⌝ }
 {
-    let nv_is_ext_line = nv[COL_IS_EXT_LINE];
-    let nv_is_main_line = sub(1, nv_is_ext_line);
+    let nv_is_main_line = sub(1, nv[COL_IS_EXT_LINE]);
     let not_end_nor_call_sc = sub(sub(1, lv[COL_S_END]), lv[COL_S_CALL_SC]);
     let op0 = lv[COL_OP0];
     [
         // next line is ext line, pc not change (except for end): the comment says pc, the code clk
-        mul(
-            mul(nv_is_ext_line, sub(1, nv[COL_S_END])),
-            sub(nv[COL_CLK], lv[COL_CLK]),
-        ),
+        clk_kept,
         mul(
             mul(nv_is_main_line, not_end_nor_call_sc),
             sub(nv[COL_PC], pc_next(lv)),

@@ -12,8 +12,9 @@ ghost use Rattle.table.specs.CpuStark.{instruction, constraint-instruction-enco
 use residue::below::add;
 use residue::below::sub;
 use residue::mul;
-use row_sums::plus_shifted;
+use row_sums::from_digits;
 use row_sums::pow2;
+use sums::plus_product;
 use sums::product;
 use sums::reduced;
 use table::columns::*;
@@ -31,6 +32,9 @@ impl CpuStark {
     pub const DST_SHIFT_START: u32 = 41;
 }
 
+// How far below a group's first place its last one is.
+const LAST: u32 = REGISTER_NUM as u32 - 1;
+
 // What the columns of the operands and of the opcode encode.
 pub fn instruction(lv: &[u64]) -> u64
     requires { ⌜ Row (now lv) ⌝ }
@@ -42,9 +46,21 @@ pub fn instruction(lv: &[u64]) -> u64
     let s_dsts = &lv[COL_S_DST_START..COL_S_DST_END];
     let op1_imm = product(lv[COL_OP1_IMM], pow2(CpuStark::OP1_IMM_SHIFT));
     // From the high bits down, the order of each group is r9, r8, .. r0.
-    let with_op0 = plus_shifted(op1_imm, s_op0s, CpuStark::OP0_SHIFT_START);
-    let with_op1 = plus_shifted(with_op0, s_op1s, CpuStark::OP1_SHIFT_START);
-    let with_dst = plus_shifted(with_op1, s_dsts, CpuStark::DST_SHIFT_START);
+    let with_op0 = plus_product(
+        op1_imm,
+        from_digits(s_op0s),
+        pow2(CpuStark::OP0_SHIFT_START - LAST),
+    );
+    let with_op1 = plus_product(
+        with_op0,
+        from_digits(s_op1s),
+        pow2(CpuStark::OP1_SHIFT_START - LAST),
+    );
+    let with_dst = plus_product(
+        with_op1,
+        from_digits(s_dsts),
+        pow2(CpuStark::DST_SHIFT_START - LAST),
+    );
     add(reduced(with_dst), lv[COL_OPCODE])
 }
 

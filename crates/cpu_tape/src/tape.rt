@@ -6,14 +6,18 @@ ghost use Rattle.table.specs.Cells.{cells};
 ghost use Rattle.table.specs.Rows.{Rows};
 ghost use Rattle.table.specs.Entry.{values};
 ghost use Rattle.table.specs.Tape.{tape-ext-lines, tape-first-ext-line};
+ghost use Rattle.cpu_factors.specs.Factors.{Given};
+use cpu_factors::TAPE_EXT_LINE;
+use cpu_factors::TSTORE_MAIN_LINE;
 use residue::below::add;
 use residue::below::sub;
 use residue::mul;
 use table::columns::*;
 
 // 164 to 169: the ext lines of tload and tstore
-pub fn tape_ext_lines(lv: &[u64], nv: &[u64]) -> [u64; 6]
-    requires { ⌜ Rows (now lv) (now nv) ⌝ }
+pub fn tape_ext_lines(lv: &[u64], nv: &[u64], factors: &[u64]) -> [u64; 6]
+    requires rows { ⌜ Rows (now lv) (now nv) ⌝ }
+    requires factors { ⌜ Given (now lv) (now factors) ⌝ }
     ensures { λ r. ⌜ r ≡ values residues (cells [] (now (lv .entry)) (now (nv .entry)) 0 0) tape-ext-lines ⌝ }
 {
     let is_ext_line = lv[COL_IS_EXT_LINE];
@@ -22,8 +26,8 @@ pub fn tape_ext_lines(lv: &[u64], nv: &[u64]) -> [u64; 6]
     let tape_addr = lv[COL_S_OP0_START];
     let nv_tape_addr = nv[COL_S_OP0_START];
     let to_tape_ext = mul(add(nv[COL_S_TSTORE], nv[COL_S_TLOAD]), nv_is_ext_line);
-    let tape_ext = mul(add(s_tstore, lv[COL_S_TLOAD]), is_ext_line);
-    let tstore_main = mul(s_tstore, sub(1, is_ext_line));
+    let tape_ext = factors[TAPE_EXT_LINE];
+    let tstore_main = factors[TSTORE_MAIN_LINE];
     let tstore_ext = mul(s_tstore, is_ext_line);
     let tstore_end = mul(s_tstore, sub(1, nv_is_ext_line));
     [
@@ -46,18 +50,17 @@ pub fn tape_ext_lines(lv: &[u64], nv: &[u64]) -> [u64; 6]
 }
 
 // 170 to 174: from the main line to the first ext line
-pub fn tape_first_ext_line(lv: &[u64], nv: &[u64]) -> [u64; 5]
-    requires { ⌜ Rows (now lv) (now nv) ⌝ }
+pub fn tape_first_ext_line(lv: &[u64], nv: &[u64], factors: &[u64]) -> [u64; 5]
+    requires rows { ⌜ Rows (now lv) (now nv) ⌝ }
+    requires factors { ⌜ Given (now lv) (now factors) ⌝ }
     ensures { λ r. ⌜ r ≡ values residues (cells [] (now (lv .entry)) (now (nv .entry)) 0 0) tape-first-ext-line ⌝ }
 {
-    let is_ext_line = lv[COL_IS_EXT_LINE];
-    let is_main_line = sub(1, is_ext_line);
+    let is_main_line = sub(1, lv[COL_IS_EXT_LINE]);
     let s_tload = lv[COL_S_TLOAD];
-    let s_tstore = lv[COL_S_TSTORE];
     let op0 = lv[COL_OP0];
     let op1 = lv[COL_OP1];
     let nv_tape_addr = nv[COL_S_OP0_START];
-    let tape_ext = mul(add(s_tstore, s_tload), is_ext_line);
+    let tape_ext = factors[TAPE_EXT_LINE];
     [
         // main and first ext for tload (flag == 1)
         mul(
@@ -74,7 +77,7 @@ pub fn tape_first_ext_line(lv: &[u64], nv: &[u64]) -> [u64; 5]
             sub(sub(nv_tape_addr, lv[COL_S_OP0_START]), 1),
         ),
         // for tstore, main op0 equals first ext line's aux0
-        mul(mul(s_tstore, is_main_line), sub(op0, nv[COL_AUX0])),
+        mul(factors[TSTORE_MAIN_LINE], sub(op0, nv[COL_AUX0])),
         // for tload, main dst equals first ext line's aux0
         mul(mul(s_tload, is_main_line), sub(lv[COL_DST], nv[COL_AUX0])),
     ]

@@ -12,35 +12,27 @@ use Rattle.algebra.specs.Expr.{eval}
 use Rattle.residue.specs.Residues.{residues}
 use Rattle.table.specs.Cells.{cells}
 use Rattle.table.specs.CpuStark.{lv-is-ext-inst, nv-is-ext-inst, lv-ext-length}
+use Rattle.cpu_wrapper.specs.Length.{Length}
 use Rattle.cpu_wrapper.proofs.wrapper.is_ext_inst.Kinds as inst
 use Rattle.cpu_wrapper.proofs.wrapper.is_ext_inst.Reads as inst-reads
-use Rattle.cpu_wrapper.proofs.wrapper.lv_ext_length.Kinds as ext
-use Rattle.cpu_wrapper.proofs.wrapper.lv_ext_length.Reads as ext-reads
 
-module _ {Γ : Cx} {u : Mo Γ} where
-  module _ {ar : ArgsT inst.ps (Γ .locals)} (k : Called inst.ps inst.r inst-reads.Learnt Γ ar u) where
-    pub isExtInstOf : (m lv nv : List ℕ) (z f : ℕ) → lv ≡ now (argsV (k .lifetimes) inst.ps (Γ .locals) ar u .0) →
-        eval residues (cells m lv nv z f) lv-is-ext-inst ≡ k .result
-    unfolding eval lv-is-ext-inst
-    isExtInstOf m lv nv z f e = rw e (sym (k .ensures .0))
+module _ {Γ : Cx} {u : Mo Γ} {ar : ArgsT inst.ps (Γ .locals)} (k : Called inst.ps inst.r inst-reads.Learnt Γ ar u) where
+  pub isExtInstOf : (m lv nv : List ℕ) (z f : ℕ) → lv ≡ now (argsV (k .lifetimes) inst.ps (Γ .locals) ar u .0) →
+      eval residues (cells m lv nv z f) lv-is-ext-inst ≡ k .result
+  unfolding eval lv-is-ext-inst
+  isExtInstOf m lv nv z f e = rw e (sym (k .ensures .0))
 
-    pub nextIsExtInstOf : (m lv nv : List ℕ) (z f : ℕ) → nv ≡ now (argsV (k .lifetimes) inst.ps (Γ .locals) ar u .0) →
-        eval residues (cells m lv nv z f) nv-is-ext-inst ≡ k .result
-    unfolding eval lv-is-ext-inst nv-is-ext-inst
-    nextIsExtInstOf m lv nv z f e = rw e (sym (k .ensures .0))
+  pub nextIsExtInstOf : (m lv nv : List ℕ) (z f : ℕ) → nv ≡ now (argsV (k .lifetimes) inst.ps (Γ .locals) ar u .0) →
+      eval residues (cells m lv nv z f) nv-is-ext-inst ≡ k .result
+  unfolding eval lv-is-ext-inst nv-is-ext-inst
+  nextIsExtInstOf m lv nv z f e = rw e (sym (k .ensures .0))
 
-    pub is-ext-inst-below : k .result < p
-    is-ext-inst-below = k .ensures .1
+  pub is-ext-inst-below : k .result < p
+  is-ext-inst-below = k .ensures .1
 
-  module _ {ar : ArgsT ext.ps (Γ .locals)} (k : Called ext.ps ext.r ext-reads.Learnt Γ ar u) where
-    pub extLengthOf : (m lv nv : List ℕ) (z f : ℕ) → lv ≡ now (argsV (k .lifetimes) ext.ps (Γ .locals) ar u .0) →
-        eval residues (cells m lv nv z f) lv-ext-length ≡ k .result
-    unfolding eval lv-ext-length
-    extLengthOf m lv nv z f e = rw e (sym (k .ensures .0))
+-- the length that a caller has computed
+pub sharedLengthOf : (m l n : List ℕ) (z f : ℕ) {x : ℕ} → Length l x → eval residues (cells m l n z f) lv-ext-length ≡ x
+unfolding eval lv-ext-length
+sharedLengthOf m l n z f h = sym (h .is)
 
-    pub ext-length-below : k .result < p
-    ext-length-below = k .ensures .1
-
-pub ruleset helpers = (isExtInstOf, nextIsExtInstOf, extLengthOf)
-
-pub ruleset helpers-below = (is-ext-inst-below, ext-length-below)
+pub ruleset helpers = (isExtInstOf, nextIsExtInstOf, sharedLengthOf)

@@ -9,6 +9,7 @@ ghost use Rattle.table.specs.Rows.{Row, Rows};
 ghost use Rattle.table.specs.Cells.{cells};
 ghost use Rattle.table.specs.Entry.{values};
 ghost use Rattle.table.specs.CpuStark.{lv-is-ext-inst, lv-ext-length, constraint-wrapper-cols};
+ghost use Rattle.cpu_wrapper.specs.Length.{Length};
 use residue::below::add;
 use residue::below::sub;
 use residue::mul;
@@ -44,9 +45,10 @@ pub fn lv_ext_length(lv: &[u64]) -> u64
     reduced(plus_product(with_call_sc, lv[COL_S_END], sub(1, lv_is_entry_sc)))
 }
 
-pub fn constraint_wrapper_cols(lv: &[u64], nv: &[u64], z_last: u64) -> [u64; 7]
+pub fn constraint_wrapper_cols(lv: &[u64], nv: &[u64], z_last: u64, ext_length: u64) -> [u64; 7]
     requires rows { ⌜ Rows (now lv) (now nv) ⌝ }
     requires weight { ⌜ «z_last» < p ⌝ }
+    requires length { ⌜ Length (now lv) «ext_length» ⌝ }
     ensures { λ r. ⌜ r ≡ values residues (cells [] (now (lv .entry)) (now (nv .entry)) «z_last» 0) constraint-wrapper-cols ⌝ }
 {
     let lv_is_padding = lv[COL_IS_PADDING];
@@ -56,7 +58,7 @@ pub fn constraint_wrapper_cols(lv: &[u64], nv: &[u64], z_last: u64) -> [u64; 7]
     let padding_diff = sub(nv_is_padding, lv_is_padding);
     let nv_not_padding = sub(1, nv_is_padding);
     let tx_idx_diff = sub(nv[COL_TX_IDX], lv[COL_TX_IDX]);
-    let missing_ext_lines = sub(lv_ext_length(lv), lv[COL_EXT_CNT]);
+    let missing_ext_lines = sub(ext_length, lv[COL_EXT_CNT]);
     [
         // padding from zero to one, and padding row op is end.
         mul(lv_is_padding, sub(lv_is_padding, 1)),

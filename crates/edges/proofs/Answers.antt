@@ -7,10 +7,10 @@ use Rattle.algebra.specs.Prime.{p}
 use Rattle.refusals.specs.Refusal.{canonical, member, distinct}
 use Rattle.table.specs.Table.{pairValues}
 use Rattle.tally.specs.Tally.{nonzeros, firstFrom}
-use Rattle.pair.specs.PairValues.{pairValuesRefusal, pairValuesBuffer}
-use Rattle.runs.specs.Run.{rowAt, pairAt, tabulate, pairsOf}
-use Rattle.runs.specs.Report.{failing, spotFrom, runRefusal, refusedBy, reported, reportOf}
-use Rattle.runs.specs.declared.Spot.the-variants.{At}
+use Rattle.pair_checks.specs.PairValues.{pairValuesRefusal, pairValuesBuffer}
+use Rattle.run_pairs.specs.Run.{rowAt, pairAt, tabulate, pairsOf, runRefusal}
+use Rattle.runs.specs.Report.{failing, spotFrom, refusedBy, reported, reportOf}
+use Rattle.answers.specs.declared.Spot.the-variants.{At}
 use Rattle.worked.specs.Rows.{powers, zeros, encoded, mload, at-pc}
 use Rattle.worked.proofs.Worked.{instruction-word-value, mload-value, zero-row-values}
 

@@ -5,9 +5,9 @@ use Prim.Native.Nat.{ℕ, _≤_}
 use lib.Dec.{eqb, lit<}
 use borrow.Author.Tests.{eq-eqb}
 use Rattle.algebra.specs.Prime.{p}
-use Rattle.residue.specs.declared.checked.Residue.{Residue}
-use Rattle.residue.specs.Answer.{number, unless, checked}
-use Rattle.residue.proofs.Operands.{left-refused, right-refused}
+use Rattle.checked_residue.specs.declared.Residue.{Residue}
+use Rattle.checked_residue.specs.Answer.{number, unless, checked}
+use Rattle.checked_residue.proofs.Operands.{left-refused, right-refused}
 
 -- a test that what g reads off the answer r is m
 pub expected : (g : Residue → ℕ) {r s : Residue} {n m : ℕ} → r ≡ s → n ≡ g r → g s ≡ m → eqb n m ≡ true

@@ -1,8 +1,8 @@
 // The lengths of ext lines.
 ghost use mathlib.Core.Path.{_≡_};
-ghost use Rattle.residue.specs.Answer.{value as Answer·value};
+ghost use Rattle.checked_residue.specs.Answer.{value as Answer·value};
 ghost use Rattle.table.specs.CpuStark.{lv-ext-length};
-ghost use Rattle.adjacent_rows.specs.RowValue.{rowValue};
+ghost use Rattle.row_values.specs.RowValue.{rowValue};
 ghost use Rattle.worked.specs.Rows.{tload as tloadRow, end as endRow};
 use crate::lines;
 use crate::residues::value;
@@ -21,7 +21,7 @@ fn tload(words: &[u8], op0: u64, op1: u64) -> u64
     row[COL_S_TLOAD] = 1;
     row[COL_OP0] = op0;
     row[COL_OP1] = op1;
-    let length = value(adjacent_rows::row::ext_length(&row));
+    let length = value(row_values::ext_length(&row));
     lines::number(words, length);
     length
 }
@@ -32,7 +32,7 @@ fn end(words: &[u8], entry: u64) -> u64
     let mut row = [0u64; NUM_CPU_COLS];
     row[COL_S_END] = 1;
     row[COL_IS_ENTRY_SC] = entry;
-    let length = value(adjacent_rows::row::ext_length(&row));
+    let length = value(row_values::ext_length(&row));
     lines::number(words, length);
     length
 }

@@ -1,12 +1,13 @@
 // The reports of runs.
 ghost use mathlib.Core.Path.{_≡_};
-ghost use Rattle.runs.specs.Report.{reportOf, pairOf, valueOf};
+ghost use Rattle.answers.specs.Spot.{pairOf, valueOf};
+ghost use Rattle.runs.specs.Report.{reportOf};
 ghost use Rattle.worked.specs.Rows.{powers};
 use crate::lines;
 use crate::masks::POWERS;
+use answers::Report;
+use answers::Spot;
 use libc::STDOUT_FILENO;
-use runs::Report;
-use runs::Spot;
 use table::columns::NUM_CPU_COLS;
 
 // A spot's pair and value number, zeros where there is none.

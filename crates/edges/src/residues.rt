@@ -3,12 +3,11 @@ ghost use mathlib.Core.Path.{_≡_};
 ghost use Prim.Native.Nat.{_≤_};
 ghost use Rattle.algebra.specs.Prime.{p};
 ghost use Rattle.residue.specs.Residues.{addP, subP, mulP};
-ghost use Rattle.residue.specs.Answer.{checked};
-ghost use Rattle.residue.specs.Answer.{number as Answer·number, value as Answer·value};
+ghost use Rattle.checked_residue.specs.Answer.{checked};
+ghost use Rattle.checked_residue.specs.Answer.{number as Answer·number, value as Answer·value};
 use algebra::P;
+use checked_residue::Residue;
 use libc::STDOUT_FILENO;
-use residue::checked;
-use residue::checked::Residue;
 
 // Document 01's number of an answer.
 fn number(r: Residue) -> u64
@@ -52,7 +51,7 @@ fn print(a: u64, sign: &[u8], b: u64, r: Residue) {
 fn add(a: u64, b: u64) -> Residue
     ensures { λ r. ⌜ r ≡ checked addP a b ⌝ }
 {
-    let r = checked::add(a, b);
+    let r = checked_residue::add(a, b);
     print(a, b" + ", b, r);
     r
 }
@@ -60,7 +59,7 @@ fn add(a: u64, b: u64) -> Residue
 fn sub(a: u64, b: u64) -> Residue
     ensures { λ r. ⌜ r ≡ checked subP a b ⌝ }
 {
-    let r = checked::sub(a, b);
+    let r = checked_residue::sub(a, b);
     print(a, b" - ", b, r);
     r
 }
@@ -68,7 +67,7 @@ fn sub(a: u64, b: u64) -> Residue
 fn mul(a: u64, b: u64) -> Residue
     ensures { λ r. ⌜ r ≡ checked mulP a b ⌝ }
 {
-    let r = checked::mul(a, b);
+    let r = checked_residue::mul(a, b);
     print(a, b" * ", b, r);
     r
 }

@@ -3,7 +3,7 @@ ghost use mathlib.Core.Path.{_≡_};
 ghost use Prim.Native.Nat.{_-_, _≤_, _<_};
 ghost use lib.ListN.{getD, replicate};
 ghost use Rattle.tally.specs.Tally.{nonzeros};
-ghost use Rattle.pair.specs.PairValues.{pairValuesRefusal, pairValuesBuffer};
+ghost use Rattle.pair_checks.specs.PairValues.{pairValuesRefusal, pairValuesBuffer};
 ghost use Rattle.worked.specs.Rows.{powers, zeros, lastMask, lastColumn};
 use crate::lines;
 use crate::masks::POWERS;

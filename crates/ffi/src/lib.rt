@@ -2,8 +2,8 @@
 ghost use mathlib.Core.Path.{_≡_};
 ghost use lib.ListN.{length};
 ghost use Rattle.residue.specs.Residues.{addP, subP, mulP};
-ghost use Rattle.residue.specs.Answer.{checked};
-ghost use Rattle.pair.specs.PairValues.{pairValuesRefusal, pairValuesBuffer};
+ghost use Rattle.checked_residue.specs.Answer.{checked};
+ghost use Rattle.pair_checks.specs.PairValues.{pairValuesRefusal, pairValuesBuffer};
 ghost use Rattle.pair_fold.specs.PairFold.{pairFoldRefusal, pairFoldAccumulators};
 ghost use Rattle.judge.specs.Verdict.{verdictOf};
 ghost use Rattle.runs.specs.Report.{reportOf};
@@ -19,21 +19,21 @@ use flat::flat_verdict;
 pub extern "C" fn felmugo_add(a: u64, b: u64) -> FelmugoResidue
     ensures { λ r. ⌜ r ≡ flatResidue (checked addP a b) ⌝ }
 {
-    flat_residue(residue::checked::add(a, b))
+    flat_residue(checked_residue::add(a, b))
 }
 
 #[no_mangle]
 pub extern "C" fn felmugo_sub(a: u64, b: u64) -> FelmugoResidue
     ensures { λ r. ⌜ r ≡ flatResidue (checked subP a b) ⌝ }
 {
-    flat_residue(residue::checked::sub(a, b))
+    flat_residue(checked_residue::sub(a, b))
 }
 
 #[no_mangle]
 pub extern "C" fn felmugo_mul(a: u64, b: u64) -> FelmugoResidue
     ensures { λ r. ⌜ r ≡ flatResidue (checked mulP a b) ⌝ }
 {
-    flat_residue(residue::checked::mul(a, b))
+    flat_residue(checked_residue::mul(a, b))
 }
 
 #[no_mangle]

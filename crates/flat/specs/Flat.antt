@@ -1,10 +1,10 @@
 -- The answers as flat structs.
-use Rattle.residue.specs.declared.checked.Residue.{Residue}
-use Rattle.residue.specs.Answer.{number, value}
-use Rattle.judge.specs.declared.Verdict.{Verdict}
-use Rattle.judge.specs.Verdict.{number as verdictNumber, keepsOf}
-use Rattle.runs.specs.declared.Report.{Report}
-use Rattle.runs.specs.Report.{found, pairOf, valueOf}
+use Rattle.checked_residue.specs.declared.Residue.{Residue}
+use Rattle.checked_residue.specs.Answer.{number, value}
+use Rattle.answers.specs.declared.Verdict.{Verdict}
+use Rattle.answers.specs.Verdict.{number as verdictNumber, keepsOf}
+use Rattle.answers.specs.declared.Report.{Report}
+use Rattle.answers.specs.Spot.{found, pairOf, valueOf}
 use Rattle.flat.specs.declared.FelmugoResidue.{FelmugoResidue}
 use Rattle.flat.specs.declared.FelmugoVerdict.{FelmugoVerdict}
 use Rattle.flat.specs.declared.FelmugoReport.{FelmugoReport}

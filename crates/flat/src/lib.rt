@@ -1,10 +1,10 @@
 // Answers as flat structs, for C and Rust.
 ghost use mathlib.Core.Path.{_≡_};
 ghost use Rattle.flat.specs.Flat.{flatResidue, flatVerdict, flatReport};
-use judge::Verdict;
-use residue::checked::Residue;
-use runs::Report;
-use runs::Spot;
+use answers::Report;
+use answers::Spot;
+use answers::Verdict;
+use checked_residue::Residue;
 
 // A residue, or the number of the refusal with the value 0.
 #[repr(C)]

@@ -1,16 +1,18 @@
 -- The refusal of a call of the judge, test by test, and its verdict.
-use mathlib.Core.Path.{_≡_, refl, sym, ap, _∙_}
+use mathlib.Core.Path.{_≡_, sym, ap, _∙_}
 use mathlib.Core.Bool.{Bool, true, false, cond, not, _&&_}
 use mathlib.Core.List.{List, [], _∷_, _++_}
 use Prim.Native.Nat.{ℕ, zero, suc}
-use lib.Dec.{eqb, eqb·suc-zero}
+use lib.Dec.{eqb}
 use Rattle.refusals.specs.Refusal.{Condition, lowest, sizes, contents, flagsNotPlain}
 use Rattle.refusals.proofs.Laws.{Clear, clear, before, behind}
 use Rattle.checks.proofs.Laws.{rows-are, masks-are}
 use Rattle.rulebook.specs.Plain.{pairPlain, pairKeeps}
 use Rattle.judge_rules.specs.Pair.{Pair}
-use Rattle.judge.specs.declared.Verdict.the-variants.{Keeps, Breaks, Refused}
-use Rattle.judge.specs.Verdict.{number, keepsOf, judgeRefusal, unless, verdictOf}
+use Rattle.answers.specs.declared.Verdict.the-variants.{Keeps, Breaks, Refused}
+use Rattle.answers.specs.Verdict.{number, keepsOf, unless}
+use Rattle.answers.proofs.Laws.{number-unless, keepsOf-unless}
+use Rattle.judge.specs.Verdict.{judgeRefusal, verdictOf}
 
 -- of conditions none of which holds, neither the first ones nor the others do
 clear-front : (cs ds : List Condition) → Clear (cs ++ ds) → Clear cs
@@ -82,19 +84,9 @@ module _ (masks lv nv : List ℕ) where
 -- what the verdict tells: the number of the refusal, and 1 exactly if the call is not turned back and every rule is kept
 pub number-is : (masks lv nv : List ℕ) (first last : Bool) → number (verdictOf masks lv nv first last) ≡ judgeRefusal masks lv nv
 unfolding verdictOf
-number-is masks lv nv first last = go (judgeRefusal masks lv nv) (pairKeeps masks lv nv first last)
-  where
-    go : (n : ℕ) (b : Bool) → number (unless n b) ≡ n
-    go zero true = refl
-    go zero false = refl
-    go (suc n) b = refl
+number-is masks lv nv first last = number-unless (judgeRefusal masks lv nv) (pairKeeps masks lv nv first last)
 
 pub keepsOf-is : (masks lv nv : List ℕ) (first last : Bool) →
     keepsOf (verdictOf masks lv nv first last) ≡ cond (eqb (judgeRefusal masks lv nv) 0 && pairKeeps masks lv nv first last) 1 0
 unfolding verdictOf
-keepsOf-is masks lv nv first last = go (judgeRefusal masks lv nv) (pairKeeps masks lv nv first last)
-  where
-    go : (n : ℕ) (b : Bool) → keepsOf (unless n b) ≡ cond (eqb n 0 && b) 1 0
-    go zero true = refl
-    go zero false = refl
-    go (suc n) b = rw (eqb·suc-zero n)
+keepsOf-is masks lv nv first last = keepsOf-unless (judgeRefusal masks lv nv) (pairKeeps masks lv nv first last)

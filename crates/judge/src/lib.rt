@@ -1,16 +1,10 @@
 // The judge: whether a pair of rows keeps every rule of the rulebook.
 ghost use mathlib.Core.Path.{_≡_};
 ghost use Rattle.judge.specs.Verdict.{judgeRefusal, verdictOf};
+use answers::Verdict;
 use judge_plain::plain_flags;
 use judge_rules::keeps;
 use refusals::FLAGS_NOT_PLAIN;
-
-// What the judge says of a pair, or the number with which the call is turned back.
-pub enum Verdict {
-    Keeps,
-    Breaks,
-    Refused(u64),
-}
 
 // The number with which a call of the judge is turned back; 0 where it is not.
 fn refusal(masks: &[u64], lv: &[u64], nv: &[u64]) -> u64

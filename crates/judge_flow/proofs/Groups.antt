@@ -12,7 +12,7 @@ use Rattle.algebra.specs.Expr.{eval}
 use Rattle.rulebook.specs.Rule.{holds, keepsSentence, keepsAll}
 use Rattle.rulebook.specs.Rulebook.{rules-I, rules-J, rules-K}
 use Rattle.judge_columns.specs.Group.{keepsRules}
-use Rattle.judge_kinds.proofs.Unread.{goes-masks}
+use Rattle.judge_pc_registers.proofs.Unread.{goes-masks}
 use Rattle.judge_flow.proofs.keeps_clk.Kinds as clk
 use Rattle.judge_flow.proofs.keeps_clk.Reads as clk-reads
 use Rattle.judge_flow.proofs.keeps_pc.Kinds as pc

@@ -8,9 +8,9 @@ ghost use Rattle.judge_columns.specs.Group.{keepsRules};
 use judge_columns::FP;
 use judge_columns::kept_unless_dst;
 use judge_kinds::kinds::*;
-use judge_kinds::selected::fp_free;
-use judge_kinds::selected::pc_target;
-use judge_kinds::selected::registers_free;
+use judge_pc_registers::fp_free;
+use judge_pc_registers::pc_target;
+use judge_pc_registers::registers_free;
 use residue::below::add;
 use table::columns::*;
 

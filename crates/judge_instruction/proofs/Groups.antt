@@ -13,7 +13,7 @@ use Rattle.table.specs.Entry.{plusAll}
 use Rattle.rulebook.specs.Rule.{holds, keepsSentence, keepsAll}
 use Rattle.rulebook.specs.Rulebook.{rules-F, rules-G, rules-H}
 use Rattle.judge_columns.specs.Group.{keepsRules}
-use Rattle.judge_kinds.proofs.Unread.{opcode-next}
+use Rattle.judge_opcode.proofs.Opcode.{opcode-next}
 use Rattle.judge_instruction.proofs.keeps_opcode_selector.Kinds as selector
 use Rattle.judge_instruction.proofs.keeps_opcode_selector.Reads as selector-reads
 use Rattle.judge_instruction.proofs.keeps_instruction_encode.Kinds as encode

@@ -15,7 +15,7 @@ use Rattle.rulebook.specs.Words.{bit, every, range}
 use Rattle.rulebook.specs.Rulebook.{rules-F}
 use Rattle.judge_columns.specs.Group.{keepsRules}
 use Rattle.judge_columns.proofs.Counts.{first-below}
-use Rattle.judge_kinds.specs.Selected.{opcode-of}
+use Rattle.judge_opcode.specs.Opcode.{opcode-of}
 
 -- a row of which exactly one selector is 1 has a kind: F, with that said once more
 module _ (m l : List ℕ) (k : ℕ) (e : k ≡ kindOf (cells [] l [] 0 0)) where

@@ -16,7 +16,7 @@ ghost use Rattle.judge_instruction.specs.Part.{WordPart};
 use judge_columns::bits;
 use judge_columns::chosen;
 use judge_columns::ones;
-use judge_kinds::selected::has_opcode;
+use judge_opcode::has_opcode;
 use residue::below::add;
 use residue::mul;
 use residue::mul_add;

@@ -1,3 +1,3 @@
-// The kinds of an instruction, and what they pick.
+// The kinds of an instruction, and their ext lines.
 pub mod kinds;
 pub mod selected;

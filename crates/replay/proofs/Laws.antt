@@ -8,7 +8,7 @@ use lib.ListN.{length, getD, take, drop-of-length-le}
 use lib.Seq.{take-suc, take-all}
 use borrow.Author.Tests.{eq-eqb}
 use Rattle.table.specs.Table.{pairValues}
-use Rattle.pair.specs.PairValues.{pairValuesRefusal, pairValuesBuffer}
+use Rattle.pair_checks.specs.PairValues.{pairValuesRefusal, pairValuesBuffer}
 
 module _ (a b : List ℕ) (i : ℕ) (e : take i a ≡ take i b) where
   pub one-more : i < length a → i < length b → getD a i 0 ≡ getD b i 0 → take (i + 1) a ≡ take (i + 1) b

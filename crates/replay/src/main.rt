@@ -85,7 +85,7 @@ fn replay_record() -> Outcome {
         return Outcome::Partial;
     }
     let mut record = [0u64; RECORD];
-    text::decode(&bytes, &mut record);
+    words::decode(&bytes, &mut record);
     if agrees(&record) {
         Outcome::Agrees
     } else {

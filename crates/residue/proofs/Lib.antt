@@ -2,7 +2,6 @@ pub mod Remainders
 pub mod Laws
 pub mod Digits
 pub mod Folding
-pub mod Operands
 pub mod Field
 pub mod Called
 pub mod Carry

@@ -99,7 +99,7 @@ fn read_part(part: &mut [u8]) -> Size
     if got != SIZE_BYTES {
         return Size::Malformed;
     }
-    let n = text::word(&size, 0);
+    let n = words::word(&size, 0);
     if n > part.len() as u64 {
         return Size::Malformed;
     }

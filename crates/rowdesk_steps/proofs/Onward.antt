@@ -10,12 +10,13 @@ use lib.Dec.{eqb, leb}
 use Rattle.refusals.specs.Refusal.{canonical, rowContents, maskContents}
 use Rattle.refusals.proofs.Laws.{canonical-below}
 use Rattle.table.specs.Rows.{Row}
-use Rattle.text.specs.Words.{words}
+use Rattle.checks.proofs.Laws.{accepted-row, accepted-masks}
+use Rattle.words.specs.Words.{words}
 use Rattle.rowdesk_steps.specs.Model.{blank, ended, acceptOf, rowOf, endOf, feedOf, masksOf, startOf, Stepped, Gives}
 use Rattle.rowdesk_steps.specs.Sound.{Sound, Onward}
 use Rattle.rowdesk_steps.specs.declared.State.{State}
 use Rattle.rowdesk_steps.specs.declared.Step.{Step}
-use Rattle.rowdesk_steps.proofs.Laws.{by-cases, words-length, row-is, masks-are}
+use Rattle.rowdesk_steps.proofs.Laws.{by-cases, words-length}
 
 -- a state that ends is as sound as it was
 pub stops : (old s : State) → Sound s → Onward old (ended s)
@@ -42,7 +43,7 @@ module _ (s : State) (k : Sound s) where
   unfolding rowOf
   row-leads row l =
       by-cases Leads (leb 65536 (s .rows)) (λ _. stops s s k)
-      (λ few. by-cases Leads (rowContents row .holds) (λ _. stops s s k) (λ e. accept-leads row (row-is row l e) (leb-false _ _ few)))
+      (λ few. by-cases Leads (rowContents row .holds) (λ _. stops s s k) (λ e. accept-leads row (accepted-row row l e) (leb-false _ _ few)))
 
   end-leads : Leads (endOf s)
   unfolding endOf
@@ -79,7 +80,7 @@ unfolding startOf masksOf
 start-sound bytes =
     by-cases SoundAfter (eqb (length bytes) 200)
     (λ _. by-cases SoundAfter (maskContents (words 25 bytes) .holds) (λ _. blank-sound)
-    (λ e. record { masks = masks-are (words 25 bytes) (words-length 25 bytes) e; first = zero-row; previous = zero-row; few = omega arith }))
+    (λ e. record { masks = accepted-masks (words 25 bytes) (words-length 25 bytes) e; first = zero-row; previous = zero-row; few = omega arith }))
     (λ _. blank-sound)
 
 pub started : (bytes : List ℕ) {r : Step} {out : List ℕ} → Gives (startOf bytes) r out → Gives (startOf bytes) r out × Sound (r .state)

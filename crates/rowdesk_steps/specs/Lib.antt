@@ -1,3 +1,3 @@
-pub mod Lines
+pub mod PairLines
 pub mod Model
 pub mod Sound

@@ -10,9 +10,10 @@ use Rattle.refusals.specs.Refusal.{maskContents, rowContents}
 use Rattle.table.specs.Columns.{NUM-CPU-COLS}
 use Rattle.table.specs.Masks.{NUM-MASKS}
 use Rattle.table.specs.Table.{pairValues}
-use Rattle.runs.specs.Run.{first as firstWeight}
-use Rattle.text.specs.Words.{words}
-use Rattle.rowdesk_steps.specs.Lines.{lineOfPair, refusedOf}
+use Rattle.run_pairs.specs.Run.{firstWeight}
+use Rattle.words.specs.Words.{words}
+use Rattle.rowdesk_lines.specs.Lines.{refusedOf}
+use Rattle.rowdesk_steps.specs.PairLines.{lineOfPair}
 use Rattle.rowdesk_steps.specs.declared.State.{State}
 use Rattle.rowdesk_steps.specs.declared.Step.{Step}
 

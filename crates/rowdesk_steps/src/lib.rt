@@ -5,14 +5,15 @@ ghost use lib.ListN.{length, take};
 ghost use Rattle.algebra.specs.Prime.{p};
 ghost use Rattle.io.specs.Counts.{Counts};
 ghost use Rattle.table.specs.Rows.{Row};
-ghost use Rattle.rowdesk_steps.specs.Lines.{lineOf, refusedOf};
 ghost use Rattle.rowdesk_steps.specs.Model.{blank as blankState, refusedBy, pairLine, acceptOf, rowOf, endOf, feedOf, masksOf, startOf, Gives};
 ghost use Rattle.rowdesk_steps.specs.Sound.{Sound, Onward};
 use refusals::MASK_CONTENTS;
 use refusals::MASK_COUNT;
 use refusals::ROW_CONTENTS;
 use refusals::ROW_LENGTH;
-use runs::MAX_ROWS;
+use rowdesk_lines::line;
+use rowdesk_lines::refused;
+use run_pairs::MAX_ROWS;
 use table::columns::NUM_CPU_COLS;
 use table::masks::NUM_MASKS;
 
@@ -23,10 +24,6 @@ pub const ROW_BYTES: usize = 8 * NUM_CPU_COLS;
 
 // Room for any line: three numbers of at most 20 digits, and three bytes between and behind them.
 pub const LINE_BYTES: usize = 64;
-
-const SPACE: u8 = 32;
-
-const LINE_END: u8 = 10;
 
 // The masks, the first and the previous row, how many rows were accepted, and whether more may come.
 pub struct State {
@@ -41,31 +38,6 @@ pub struct State {
 pub struct Step {
     pub state: State,
     pub length: usize,
-}
-
-// The line of a pair, at the start of `out`.
-fn line(index: u64, count: u64, lowest: u64, out: &mut [u8]) -> usize
-    requires { ⌜ 64 ≤ length (now out) ⌝ }
-    ensures text { λ r. ⌜ take r (now (out .exit)) ≡ lineOf index count lowest ⌝ }
-    ensures counts { λ r. ⌜ Counts r (now (out .exit)) ⌝ }
-{
-    let at = text::put_decimal(index, out, 0);
-    let at = text::put_byte(SPACE, out, at);
-    let at = text::put_decimal(count, out, at);
-    let at = text::put_byte(SPACE, out, at);
-    let at = text::put_decimal(lowest, out, at);
-    text::put_byte(LINE_END, out, at)
-}
-
-// The line of a refusal, at the start of `out`.
-fn refused(number: u64, out: &mut [u8]) -> usize
-    requires { ⌜ 64 ≤ length (now out) ⌝ }
-    ensures text { λ r. ⌜ take r (now (out .exit)) ≡ refusedOf number ⌝ }
-    ensures counts { λ r. ⌜ Counts r (now (out .exit)) ⌝ }
-{
-    let at = text::put(b"refused ", out, 0);
-    let at = text::put_decimal(number, out, at);
-    text::put_byte(LINE_END, out, at)
 }
 
 fn refuse(s: State, number: u64, out: &mut [u8]) -> Step
@@ -91,7 +63,13 @@ fn pair_line(s: State, next: &[u64; NUM_CPU_COLS], z_last: u64, out: &mut [u8]) 
     let masks = s.masks;
     let previous = s.previous;
     let index = s.rows - 1;
-    let tally = tally::pair_tally(&masks, &previous, next, z_last, runs::first_weight(index));
+    let tally = pair_tally::pair_tally(
+        &masks,
+        &previous,
+        next,
+        z_last,
+        run_pairs::first_weight(index),
+    );
     line(index as u64, tally.count, tally.lowest, out)
 }
 
@@ -158,7 +136,7 @@ pub fn feed(s: State, bytes: &[u8], out: &mut [u8; LINE_BYTES]) -> Step
     }
     if bytes.len() == ROW_BYTES {
         let mut row = [0u64; NUM_CPU_COLS];
-        text::decode(bytes, &mut row);
+        words::decode(bytes, &mut row);
         return whole_row(s, row, out);
     }
     refuse(s, ROW_LENGTH, out)
@@ -198,7 +176,7 @@ pub fn start(bytes: &[u8], out: &mut [u8; LINE_BYTES]) -> Step
 {
     if bytes.len() == MASK_BYTES {
         let mut masks = [0u64; NUM_MASKS];
-        text::decode(bytes, &mut masks);
+        words::decode(bytes, &mut masks);
         return with_masks(masks, out);
     }
     refuse(blank(), MASK_COUNT, out)

@@ -9,11 +9,11 @@ use lib.ListN.{length}
 use lib.Dec.{eqb}
 use borrow.Author.Tests.{eq-eqb, ne-eqb, eqb-true}
 use Rattle.tally.specs.Tally.{nonzeros, firstFrom}
-use Rattle.runs.specs.declared.Report.{Report}
-use Rattle.runs.specs.declared.Spot.{Spot}
-use Rattle.runs.specs.declared.Spot.the-variants.{Clean, At}
-use Rattle.runs.specs.Run.{rowCount, pairAt, tabulate, pairsOf}
-use Rattle.runs.specs.Report.{failing, spotFrom, runRefusal, reported, refusedBy, reportOf}
+use Rattle.run_pairs.specs.Run.{rowCount, pairAt, tabulate, pairsOf, runRefusal}
+use Rattle.answers.specs.declared.Report.{Report}
+use Rattle.answers.specs.declared.Spot.{Spot}
+use Rattle.answers.specs.declared.Spot.the-variants.{Clean, At}
+use Rattle.runs.specs.Report.{failing, spotFrom, reported, refusedBy, reportOf}
 
 -- what stands found of the pairs before i, with f i the values of pair i
 pub record Found (f : ℕ → List ℕ) (n i count : ℕ) (spot : Spot) : Type 0 where

@@ -11,10 +11,11 @@ use borrow.Author.Tests.{eq-eqb, eqb-true, eqb-false}
 use Rattle.algebra.specs.Lists.{All}
 use Rattle.tally.specs.Tally.{nonzeros, firstFrom}
 use Rattle.tally.proofs.Laws.{counts-none}
-use Rattle.runs.specs.declared.Spot.{Spot}
-use Rattle.runs.specs.declared.Spot.the-variants.{Clean, At}
-use Rattle.runs.specs.Run.{tabulate}
-use Rattle.runs.specs.Report.{failing, spotFrom, found, pairOf, valueOf}
+use Rattle.run_pairs.specs.Run.{tabulate}
+use Rattle.answers.specs.declared.Spot.{Spot}
+use Rattle.answers.specs.declared.Spot.the-variants.{Clean, At}
+use Rattle.answers.specs.Spot.{found, pairOf, valueOf}
+use Rattle.runs.specs.Report.{failing, spotFrom}
 
 -- no pair has a nonzero value
 abbrev pub Zeros : List (List ℕ) → Type 0

@@ -15,12 +15,12 @@ use Rattle.rulebook.proofs.Tests.{true-of, of-true, by-cond}
 use Rattle.rulebook.proofs.Theorem.{rules-iff-values}
 use Rattle.tally.specs.Tally.{nonzeros}
 use Rattle.tally.proofs.Laws.{zeros-of-none, none-of-zeros}
-use Rattle.runs.specs.declared.Report.{Report}
-use Rattle.runs.specs.declared.Spot.the-variants.{Clean, At}
-use Rattle.runs.specs.Run.{rowCount, isLastPair, nextRow, pairAt, pairsOf}
-use Rattle.runs.specs.Report.{runRefusal, reported, refusedBy, reportOf}
+use Rattle.run_pairs.specs.Run.{rowCount, isLastPair, nextRow, pairAt, pairsOf, runRefusal}
+use Rattle.run_pairs.proofs.Parts.{accepted, row-is}
+use Rattle.answers.specs.declared.Report.{Report}
+use Rattle.answers.specs.declared.Spot.the-variants.{Clean, At}
+use Rattle.runs.specs.Report.{reported, refusedBy, reportOf}
 use Rattle.runs.specs.RunRules.{PlainAt, KeepsAt, EveryPair}
-use Rattle.runs.proofs.Parts.{accepted, row-is}
 use Rattle.runs.proofs.Found.{length-tabulate, report-done}
 use Rattle.runs.proofs.Pairs.{zeros-of-failing, failing-of-zeros, zeros-of-clean, clean-of-zeros, all-of-each, each-of-all, first-of-spot}
 

@@ -4,7 +4,7 @@ use mathlib.Core.Bool.{true}
 use mathlib.Core.List.{List}
 use Prim.Native.Nat.{ℕ, _<_}
 use Rattle.rulebook.specs.Plain.{isFirst, isLast, pairKeeps, pairPlain}
-use Rattle.runs.specs.Run.{rowAt, rowCount, nextRow, zLast, first}
+use Rattle.run_pairs.specs.Run.{rowAt, rowCount, nextRow, lastWeight, firstWeight}
 
 -- pair i of the run has plain flags, and keeps every rule for its place in the run
 abbrev pub PlainAt : List ℕ → ℕ → Type 0
@@ -12,7 +12,7 @@ PlainAt run i = pairPlain (rowAt run i) (rowAt run (nextRow (rowCount run) i)) �
 
 abbrev pub KeepsAt : List ℕ → List ℕ → ℕ → Type 0
 KeepsAt run masks i =
-    pairKeeps masks (rowAt run i) (rowAt run (nextRow (rowCount run) i)) (isFirst (first i)) (isLast (zLast (rowCount run) i)) ≡ true
+    pairKeeps masks (rowAt run i) (rowAt run (nextRow (rowCount run) i)) (isFirst (firstWeight i)) (isLast (lastWeight (rowCount run) i)) ≡ true
 
 -- every pair of the run does
 abbrev pub EveryPair : List ℕ → (ℕ → Type 0) → Type 0

@@ -10,6 +10,7 @@ ghost use Rattle.table.specs.Rows.{Rows};
 ghost use Rattle.table.specs.Cells.{cells};
 ghost use Rattle.table.specs.Entry.{values};
 ghost use Rattle.table.specs.CpuStark.{constraint-tx-init, eval-packed-generic-body, constraint-ext-lines};
+ghost use Rattle.cpu_wrapper.specs.Length.{Length};
 use parts::put;
 
 pub fn constraint_tx_init(
@@ -51,12 +52,13 @@ pub fn eval_packed_generic_body(lv: &[u64], nv: &[u64], z_last: u64, out: &mut [
     put(out, at + 10, &filter_imm);
 }
 
-pub fn constraint_ext_lines(lv: &[u64], nv: &[u64], out: &mut [u64], at: usize)
+pub fn constraint_ext_lines(lv: &[u64], nv: &[u64], out: &mut [u64], at: usize, ext_length: u64)
     requires rows { ⌜ Rows (now lv) (now nv) ⌝ }
+    requires length { ⌜ Length (now lv) «ext_length» ⌝ }
     requires room { ⌜ at + 25 ≤ length (now out) ⌝ }
     ensures { λ _. ⌜ now (out .exit) ≡ write (now (out .entry)) at (values residues (cells [] (now (lv .entry)) (now (nv .entry)) 0 0) constraint-ext-lines) ⌝ }
 {
-    let counts = cpu_ext_lines::ext_lines::ext_lines_counts(lv, nv);
+    let counts = cpu_ext_lines::ext_lines::ext_lines_counts(lv, nv, ext_length);
     put(out, at, &counts);
     let opcode = cpu_ext_lines::ext_lines::ext_lines_opcode(lv, nv);
     put(out, at + 4, &opcode);

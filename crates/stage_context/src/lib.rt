@@ -13,6 +13,7 @@ ghost use Rattle.stage_context.specs.Stage.{context};
 use cpu_context::env_idx::constraint_env_idx;
 use cpu_stark::*;
 use cpu_wrapper::wrapper::constraint_wrapper_cols;
+use cpu_wrapper::wrapper::lv_ext_length;
 use parts::put;
 
 pub mod cpu_stark;
@@ -25,11 +26,12 @@ pub fn eval_context(lv: &[u64], nv: &[u64], z_last: u64, lagrange_basis_first: u
     requires room { ⌜ 82 ≤ length (now out) ⌝ }
     ensures { λ _. ⌜ now (out .exit) ≡ write (now (out .entry)) 0 (values residues (cells [] (now (lv .entry)) (now (nv .entry)) «z_last» «lagrange_basis_first») context) ⌝ }
 {
-    let wrapper_cols = constraint_wrapper_cols(lv, nv, z_last);
+    let ext_length = lv_ext_length(lv);
+    let wrapper_cols = constraint_wrapper_cols(lv, nv, z_last, ext_length);
     put(out, 0, &wrapper_cols);
     constraint_tx_init(lv, nv, z_last, lagrange_basis_first, out, 7);
     eval_packed_generic_body(lv, nv, z_last, out, 38);
-    constraint_ext_lines(lv, nv, out, 50);
+    constraint_ext_lines(lv, nv, out, 50, ext_length);
     let env_idx = constraint_env_idx(lv, nv, z_last);
     put(out, 75, &env_idx);
 }

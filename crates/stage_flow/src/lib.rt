@@ -26,7 +26,7 @@ pub fn eval_flow(lv: &[u64], nv: &[u64], z_last: u64, out: &mut [u64])
 {
     let clk = constraint_env_unchanged_clk(lv, nv);
     put(out, 144, &clk);
-    let pc = constraint_env_unchanged_pc(lv, nv);
+    let pc = constraint_env_unchanged_pc(lv, nv, clk[0]);
     put(out, 146, &pc);
     constraint_reg_consistency(lv, nv, z_last, out, 149);
 }

@@ -9,6 +9,7 @@ ghost use Rattle.table.specs.Rows.{Rows, Masks};
 ghost use Rattle.table.specs.Cells.{cells};
 ghost use Rattle.table.specs.Entry.{values};
 ghost use Rattle.stage_opcodes.specs.Stage.{opcodes};
+use cpu_factors::factors;
 use cpu_simple_arithmatic_op::simple_arithmatic_op;
 use parts::put;
 
@@ -25,6 +26,7 @@ pub fn eval_opcodes(lv: &[u64], nv: &[u64], masks: &[u64], z_last: u64, out: &mu
 {
     let arithmatic = simple_arithmatic_op::eval_packed_generic(lv, masks);
     put(out, 159, &arithmatic);
-    tape::eval_packed_generic(lv, nv, out, 163);
-    call_sc::eval_packed_generic(lv, nv, z_last, out, 184);
+    let factors = factors(lv);
+    tape::eval_packed_generic(lv, nv, out, 163, &factors);
+    call_sc::eval_packed_generic(lv, nv, z_last, out, 184, &factors);
 }

@@ -9,19 +9,21 @@ ghost use Rattle.table.specs.Rows.{Rows};
 ghost use Rattle.table.specs.Cells.{cells};
 ghost use Rattle.table.specs.Entry.{values};
 ghost use Rattle.table.specs.Tape.{tape};
+ghost use Rattle.cpu_factors.specs.Factors.{Given};
 use parts::put;
 
-pub fn eval_packed_generic(lv: &[u64], nv: &[u64], out: &mut [u64], at: usize)
+pub fn eval_packed_generic(lv: &[u64], nv: &[u64], out: &mut [u64], at: usize, factors: &[u64])
     requires rows { ⌜ Rows (now lv) (now nv) ⌝ }
+    requires factors { ⌜ Given (now lv) (now factors) ⌝ }
     requires room { ⌜ at + 21 ≤ length (now out) ⌝ }
     ensures { λ _. ⌜ now (out .exit) ≡ write (now (out .entry)) at (values residues (cells [] (now (lv .entry)) (now (nv .entry)) 0 0) tape) ⌝ }
 {
-    let ext_lines = cpu_tape::tape::tape_ext_lines(lv, nv);
+    let ext_lines = cpu_tape::tape::tape_ext_lines(lv, nv, factors);
     put(out, at, &ext_lines);
-    let first_ext_line = cpu_tape::tape::tape_first_ext_line(lv, nv);
+    let first_ext_line = cpu_tape::tape::tape_first_ext_line(lv, nv, factors);
     put(out, at + 6, &first_ext_line);
-    let tp = cpu_tp::tp::tape_tp(lv, nv);
+    let tp = cpu_tp::tp::tape_tp(lv, nv, factors);
     put(out, at + 11, &tp);
-    let filter = cpu_tp::tp::tape_filter(lv);
+    let filter = cpu_tp::tp::tape_filter(lv, factors);
     put(out, at + 17, &filter);
 }

@@ -6,52 +6,13 @@ use Prim.Native.Nat.{ℕ, zero, suc, _+_, _-_, _*_, _/_, _%_, _^_, _≤_, _<_}
 use native.Mathlib.Numerals.{add-one}
 use native.Mathlib.Omega.{arith}
 use native.Mathlib.Nat.{pow-suc, one-le-pow, pow-le-pow-right}
-use lib.ListN.{length, getD, take, drop, set, length-drop}
-use lib.Seq.{getD-drop, take-suc-set, take-length, drop-drop, paste, take-paste}
+use lib.ListN.{length, take, set}
+use lib.Seq.{take-suc-set, take-length, paste, take-paste}
 use lib.Dec.{leb, lit<}
 use borrow.Author.Tests.{lt-ltb, le-ltb, leb-true, leb-false}
 use Rattle.io.specs.Digits.{glyph, digits, Fewest}
-use Rattle.text.specs.Words.{littleEndian, words}
 use Rattle.text.specs.Decimal.{digitsOf, decimalOf}
 use Rattle.text.specs.Put.{Put}
-
--- the value of eight bytes, from the high one down
-abbrev horner : (ℕ → ℕ) → ℕ
-horner g = ((((((g 7 * 256 + g 6) * 256 + g 5) * 256 + g 4) * 256 + g 3) * 256 + g 2) * 256 + g 1) * 256 + g 0
-
-eight : (d : List ℕ) → 8 ≤ length d → littleEndian (take 8 d) ≡ horner (λ k. getD d k 0)
-unfolding littleEndian
-eight [] h = absurd (omega arith)
-eight (a ∷ []) h = absurd (omega arith)
-eight (a ∷ b ∷ []) h = absurd (omega arith)
-eight (a ∷ b ∷ c ∷ []) h = absurd (omega arith)
-eight (a ∷ b ∷ c ∷ d ∷ []) h = absurd (omega arith)
-eight (a ∷ b ∷ c ∷ d ∷ e ∷ []) h = absurd (omega arith)
-eight (a ∷ b ∷ c ∷ d ∷ e ∷ f ∷ []) h = absurd (omega arith)
-eight (a ∷ b ∷ c ∷ d ∷ e ∷ f ∷ g ∷ []) h = absurd (omega arith)
-eight (a ∷ b ∷ c ∷ d ∷ e ∷ f ∷ g ∷ i ∷ r) h = omega arith
-
-pub word-is : (b : List ℕ) (at : ℕ) → at + 8 ≤ length b → littleEndian (take 8 (drop at b)) ≡ horner (λ k. getD b (at + k) 0)
-word-is b at h = eight (drop at b) (rw length-drop (omega arith)) ∙ simp getD-drop
-
-words-snoc : (i : ℕ) (b : List ℕ) → words (suc i) b ≡ words i b ++ (littleEndian (take 8 (drop (8 * i) b)) ∷ [])
-unfolding words
-words-snoc zero b = refl
-words-snoc (suc i) b =
-    let e : 8 * suc i ≡ 8 + 8 * i = omega arith in
-    ap (λ (l : List ℕ). littleEndian (take 8 b) ∷ l) (words-snoc i (drop 8 b) ∙ rw (drop-drop, e))
-
-pub words-none : (b out : List ℕ) → take 0 out ≡ words 0 b
-unfolding words
-words-none b out = refl
-
--- a turn of `text::decode`
-pub words-more : (b out : List ℕ) (i r : ℕ) → i < length out → take i out ≡ words i b → r ≡ littleEndian (take 8 (drop (8 * i) b))
-    → take (i + 1) (set out i r) ≡ words (i + 1) b
-words-more b out i r h e q = rw (add-one, take-suc-set, words-snoc, e, q)
-
-pub words-all : (b out : List ℕ) (i : ℕ) → i ≡ length out → take i out ≡ words i b → out ≡ words (length out) b
-words-all b out i h e = sym (take-length out) ∙ ap (λ (k : ℕ). take k out) (sym h) ∙ e ∙ ap (λ (k : ℕ). words k b) h
 
 -- `text::put`
 pub put-all : (d s : List ℕ) (at i : ℕ) → at + length s ≤ length d → i ≡ length s → Put d (paste d at s i) at (at + i) s

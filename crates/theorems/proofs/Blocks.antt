@@ -5,8 +5,8 @@ use Prim.Native.Nat.{ℕ, zero, suc, _+_, _-_, _*_, _≤_, _<_}
 use native.Mathlib.Omega.{arith}
 use lib.ListN.{length, take, drop, length-drop}
 use lib.Seq.{take-take, take-add, drop-at, drop-drop, length-take-le}
-use Rattle.text.specs.Words.{words, littleEndian}
-use Rattle.runs.specs.Run.{rowAt}
+use Rattle.words.specs.Words.{words, littleEndian}
+use Rattle.run_pairs.specs.Run.{rowAt}
 
 words-drop : (k m : ℕ) (b : List ℕ) → drop k (words (k + m) b) ≡ words m (drop (8 * k) b)
 unfolding words

@@ -15,12 +15,13 @@ use Rattle.algebra.specs.Lists.{All}
 use Rattle.refusals.specs.Refusal.{canonical}
 use Rattle.table.specs.Rows.{Row}
 use Rattle.table.specs.Table.{pairValues}
-use Rattle.pair.specs.PairValues.{pairValuesRefusal, pairValuesBuffer}
+use Rattle.pair_checks.specs.PairValues.{pairValuesRefusal, pairValuesBuffer}
 use Rattle.rulebook.specs.Plain.{isFirst, isLast, Accepted, pairKeeps, pairPlain}
 use Rattle.rulebook.proofs.Theorem.{values-of-rules, rules-of-values}
 use Rattle.theorems.proofs.Demand3.{canonical-of, values-count}
-use Rattle.judge.specs.declared.Verdict.the-variants.{Keeps, Breaks}
-use Rattle.judge.specs.Verdict.{judgeRefusal, keepsOf, unless, verdictOf}
+use Rattle.answers.specs.declared.Verdict.the-variants.{Keeps, Breaks}
+use Rattle.answers.specs.Verdict.{keepsOf, unless}
+use Rattle.judge.specs.Verdict.{judgeRefusal, verdictOf}
 
 -- zeros, listed
 zeros-are : (n : ℕ) (vs : List ℕ) → length vs ≡ n → All (λ v. v ≡ 0) vs → vs ≡ replicate n 0

@@ -12,15 +12,15 @@ use lib.Dec.{eqb, leb, ltb}
 use Rattle.refusals.specs.Refusal.{canonical, runLength, maskContents, rowContents}
 use Rattle.refusals.proofs.Laws.{none-true, canonical-part}
 use Rattle.tally.specs.Tally.{nonzeros, firstFrom}
-use Rattle.runs.specs.Run.{rowAt, rowCount, pairAt, tabulate, pairsOf}
-use Rattle.runs.specs.Report.{failing, spotFrom, runRefusal, reportOf}
-use Rattle.runs.specs.declared.Report.{Report}
-use Rattle.runs.specs.declared.Spot.{Spot}
-use Rattle.runs.specs.declared.Spot.the-variants.{At}
-use Rattle.runs.proofs.Parts.{clears}
+use Rattle.run_pairs.specs.Run.{rowAt, rowCount, pairAt, tabulate, pairsOf, runRefusal}
+use Rattle.run_pairs.proofs.Parts.{clears}
+use Rattle.runs.specs.Report.{failing, spotFrom, reportOf}
+use Rattle.answers.specs.declared.Report.{Report}
+use Rattle.answers.specs.declared.Spot.{Spot}
+use Rattle.answers.specs.declared.Spot.the-variants.{At}
 use Rattle.runs.proofs.Found.{report-done}
-use Rattle.text.specs.Words.{words}
-use Rattle.rowdesk_steps.specs.Lines.{Line, lineOfPair, linesFrom, textOf, failingLines, firstFailing}
+use Rattle.words.specs.Words.{words}
+use Rattle.rowdesk_steps.specs.PairLines.{Line, lineOfPair, linesFrom, textOf, failingLines, firstFailing}
 use Rattle.rowdesk_steps.specs.Model.{Stepped, ended, ready, pairLine, feedOf, rowOf, acceptOf, endOf, stepsOf, startOf, masksOf, rowsOf, outputOf, masksIn, runIn}
 use Rattle.rowdesk_steps.specs.declared.State.{State}
 use Rattle.rowdesk_steps.proofs.Laws.{words-length}

@@ -21,11 +21,11 @@ use Rattle.rulebook.specs.Rulebook.{ext-length, size, rules-G}
 use Rattle.rulebook.proofs.Open.{open-table}
 use Rattle.consumer.specs.Yielded.{folds}
 use Rattle.pair_fold.specs.PairFold.{pairFoldRefusal, pairFoldAccumulators}
-use Rattle.runs.specs.Run.{rowAt, pairAt, tabulate, pairsOf}
-use Rattle.runs.specs.Report.{runRefusal}
-use Rattle.text.specs.Words.{words, littleEndian}
+use Rattle.run_pairs.specs.Run.{rowAt, pairAt, tabulate, pairsOf, runRefusal}
+use Rattle.words.specs.Words.{words, littleEndian}
 use Rattle.text.specs.Decimal.{decimalOf, digitsOf}
-use Rattle.rowdesk_steps.specs.Lines.{lineOf, linesFrom, textOf}
+use Rattle.rowdesk_lines.specs.Lines.{lineOf}
+use Rattle.rowdesk_steps.specs.PairLines.{linesFrom, textOf}
 use Rattle.rowdesk_steps.specs.Model.{outputOf, masksIn, runIn}
 use Rattle.theorems.proofs.Rowdesk.{prints-lines}
 use Rattle.worked.specs.Rows.{powers, zeros, tload, end, encoded, mload, at-pc}

@@ -38,7 +38,7 @@ use denote.Triple.Clauses.{ensured, lasts}
 use denote.Triple.Table.{entered, cited}
 use denote.Triple.Walked.{says, Stays, stay-none, stay-none-slice, gave-slice, walkOf, goes-none, goes-none-slice, goes-gave-slice, Walks, ends-at, walked, walk-meets}
 use denote.Exit.{yes}
-use Rattle.pair.specs.PairValues.{pairValuesRefusal, pairValuesBuffer}
+use Rattle.pair_checks.specs.PairValues.{pairValuesRefusal, pairValuesBuffer}
 use Rattle.adjacent_rows.specs.declared.CpuAdjacentRowWrapper.{CpuAdjacentRowWrapper}
 use Rattle.adjacent_rows.proofs.CpuAdjacentRowWrapper as T
 use Rattle.adjacent_rows.proofs.CpuAdjacentRowWrapper.Laws as T′

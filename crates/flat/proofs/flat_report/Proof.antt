@@ -1,8 +1,8 @@
 -- `flat::flat_report` meets its contract.
 use mathlib.Core.Path.{sym, ap}
 use borrow.Author.Needs.{needs}
-use Rattle.runs.specs.declared.Report.{Report}
-use Rattle.runs.specs.declared.Spot.{Spot}
+use Rattle.answers.specs.declared.Report.{Report}
+use Rattle.answers.specs.declared.Spot.{Spot}
 use Rattle.flat.specs.declared.FelmugoReport.{FelmugoReport}
 use Rattle.flat.specs.Flat.{flatReport}
 use Rattle.flat.proofs.flat_report.Statement.{statement}

@@ -6,7 +6,7 @@ use Rattle.table.proofs.Called.{exprs}
 use Rattle.table.proofs.Rows.{places}
 use Rattle.rulebook.specs.Rulebook.{rules-J}
 use Rattle.judge_columns.proofs.Rules.{keeps, rules}
-use Rattle.judge_kinds.proofs.Picked.{pcTargetOf}
+use Rattle.judge_pc_registers.proofs.Picked.{pcTargetOf}
 use Rattle.judge_flow.proofs.keeps_pc.Statement.{statement}
 use Rattle.judge_flow.proofs.keeps_pc.Tie as tie
 

@@ -7,7 +7,7 @@ use Rattle.table.proofs.Rows.{places}
 use Rattle.rulebook.specs.Rulebook.{rules-K}
 use Rattle.judge_columns.proofs.Rules.{keeps, rules}
 use Rattle.judge_columns.proofs.Spans.{keptUnlessDstOf}
-use Rattle.judge_kinds.proofs.Picked.{registersFreeOf, fpFreeOf}
+use Rattle.judge_pc_registers.proofs.Picked.{registersFreeOf, fpFreeOf}
 use Rattle.judge_flow.proofs.keeps_registers.Statement.{statement}
 use Rattle.judge_flow.proofs.keeps_registers.Tie as tie
 

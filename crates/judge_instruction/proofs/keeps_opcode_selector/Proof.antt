@@ -7,7 +7,7 @@ use Rattle.table.proofs.Rows.{places}
 use Rattle.judge_columns.proofs.Rules.{rules, counts}
 use Rattle.judge_instruction.proofs.Selectors.{selector-rules}
 use Rattle.judge_columns.proofs.Spans.{bitsOf, onesOf}
-use Rattle.judge_kinds.proofs.Picked.{hasOpcodeOf}
+use Rattle.judge_opcode.proofs.Picked.{hasOpcodeOf}
 use Rattle.judge_instruction.proofs.keeps_opcode_selector.Statement.{statement}
 use Rattle.judge_instruction.proofs.keeps_opcode_selector.Tie as tie
 

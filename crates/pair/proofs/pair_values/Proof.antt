@@ -1,7 +1,7 @@
 -- `pair::pair_values` meets its contract.
 use mathlib.Core.Path.{sym, _∙_}
 use borrow.Author.Needs.{needs}
-use Rattle.pair.proofs.Laws.{core-asks, buffer-kept, buffer-written}
+use Rattle.pair_checks.proofs.Laws.{core-asks, buffer-kept, buffer-written}
 use Rattle.pair.proofs.pair_values.Statement.{statement}
 use Rattle.pair.proofs.pair_values.Tie as tie
 

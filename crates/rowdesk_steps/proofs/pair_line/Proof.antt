@@ -5,7 +5,7 @@ use borrow.Author.Needs.{needs}
 use Rattle.table.specs.Table.{pairValues}
 use Rattle.tally.specs.Tally.{tallyOf}
 use Rattle.tally.specs.declared.Tally.{Tally}
-use Rattle.rowdesk_steps.specs.Lines.{lineOf}
+use Rattle.rowdesk_lines.specs.Lines.{lineOf}
 use Rattle.rowdesk_steps.specs.Model.{pairLine}
 use Rattle.rowdesk_steps.proofs.Laws.{first-below}
 use Rattle.rowdesk_steps.proofs.pair_line.Statement.{statement}

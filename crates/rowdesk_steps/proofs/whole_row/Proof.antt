@@ -1,9 +1,8 @@
 -- `rowdesk_steps::whole_row` meets its contract.
 use borrow.Author.Needs.{needs}
 use borrow.Author.Tests.{le-leb, lt-leb}
-use Rattle.checks.proofs.Laws.{denied, kept}
+use Rattle.checks.proofs.Laws.{denied, kept, accepted-row}
 use Rattle.rowdesk_steps.specs.Model.{rowOf}
-use Rattle.rowdesk_steps.proofs.Laws.{row-is}
 use Rattle.rowdesk_steps.proofs.whole_row.Statement.{statement}
 use Rattle.rowdesk_steps.proofs.whole_row.Tie as tie
 
@@ -24,7 +23,7 @@ accept-requires : tie.Need-accept-requires
 accept-requires c κs =
     let t = c .before in
     let s = t .before .before .before .before .before .before in
-    (s .pre .0, (s .pre .1, (row-is _ (search needs) (kept (t .before .canonical .ensures) (t .if2 .left)), search needs)))
+    (s .pre .0, (s .pre .1, (accepted-row _ (search needs) (kept (t .before .canonical .ensures) (t .if2 .left)), search needs)))
 
 returns-3 : tie.Need-returns-3
 unfolding rowOf

@@ -2,7 +2,7 @@
 use mathlib.Core.Path.{ap, _∙_}
 use borrow.Author.Needs.{needs}
 use Rattle.tally.specs.Tally.{tallyOf}
-use Rattle.runs.proofs.Parts.{last-asks, next-asks, pair-last, pair-next}
+use Rattle.run_pairs.proofs.Parts.{last-asks, next-asks, pair-last, pair-next}
 use Rattle.runs.proofs.tally_at.Statement.{statement}
 use Rattle.runs.proofs.tally_at.Tie as tie
 

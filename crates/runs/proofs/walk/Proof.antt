@@ -6,8 +6,8 @@ use native.Mathlib.Omega.{arith}
 use denote.Ref.{now}
 use borrow.Author.Needs.{needs}
 use Rattle.tally.specs.declared.Tally.{Tally}
-use Rattle.runs.specs.declared.Spot.the-variants.{At}
-use Rattle.runs.specs.Run.{rowCount, pairAt}
+use Rattle.run_pairs.specs.Run.{rowCount, pairAt}
+use Rattle.answers.specs.declared.Spot.the-variants.{At}
 use Rattle.runs.proofs.Found.{Found, found-none, passed, failed-first, failed-more, found-report}
 use Rattle.runs.proofs.walk.Statement.{statement}
 use Rattle.runs.proofs.walk.Tie as tie

@@ -21,8 +21,13 @@ room c = omega (arith, c .pre .1 .1 .1)
 
 constraint-tx-init-requires : tie.Need-constraint-tx-init-requires
 constraint-tx-init-requires c κs =
-    let s = c .before .before .before .before .before .before .before .before .before .before in
+    let s = c .before .before .before .before .before .before .before .before .before .before .before in
     (s .pre .0, (s .pre .1 .0, (s .pre .1 .1 .0, omega (arith, s .pre .1 .1 .1, c .before .before .out .given))))
+
+constraint-env-idx-requires : tie.Need-constraint-env-idx-requires
+constraint-env-idx-requires c κs =
+    let s = c .before .before .before .before .before .before .before .before .before .before .before .before .before .before .before .before .before .before .before .before .before .before in
+    (s .pre .0, s .pre .1 .0)
 
 put-requires-2 : tie.Need-put-requires-2
 put-requires-2 c κs =
@@ -30,7 +35,7 @@ put-requires-2 c κs =
     let e = d .before .before .before .before in
     let f = e .before .before .before .before in
     let g = f .before .before .before .before in
-    omega (arith, g .before .before .before .before .before .before .before .before .pre .1 .1 .1, g .out .given, f .out2 .given, e .out3 .given, d .out4 .given)
+    omega (arith, g .before .before .before .before .before .before .before .before .before .pre .1 .1 .1, g .out .given, f .out2 .given, e .out3 .given, d .out4 .given)
 
 returns : tie.Need-returns
 unfolding context
@@ -39,4 +44,4 @@ returns c = sym (putNext (c .before .before .put2) _ _ 0 (constraint-wrapper-col
 pub eval-context-spec : {M : Type 1} → statement M
 eval-context-spec =
     tie.close
-    (tie.spec (λ c κs. search needs) (λ c. search needs) (λ c κs. search needs) constraint-tx-init-requires (λ c κs. search needs) (λ c κs. search needs) (λ c κs. search needs) (λ c. search needs) put-requires-2 (λ c. search needs) returns)
+    (tie.spec (λ c κs. search needs) (λ c κs. search needs) (λ c. search needs) (λ c κs. search needs) constraint-tx-init-requires (λ c κs. search needs) (λ c κs. search needs) constraint-env-idx-requires (λ c. search needs) put-requires-2 (λ c. search needs) returns)

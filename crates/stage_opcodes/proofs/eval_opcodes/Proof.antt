@@ -16,6 +16,16 @@ use Rattle.stage_opcodes.proofs.eval_opcodes.Tie as tie
 room : (c : tie.Start) → 159 ≤ length (now (c .args .out))
 room c = omega (arith, c .pre .1 .1 .1)
 
+tape-requires : tie.Need-eval-packed-generic-requires-2
+tape-requires c κs =
+    let s = c .before .before .before .before .before .before .before .before .before .before .before .before .before in
+    (s .pre .0, (record { are = c .before .before .factors .ensures }, omega (arith, s .pre .1 .1 .1, c .before .before .before .before .out .given)))
+
+call-sc-requires : tie.Need-eval-packed-generic-requires-3
+call-sc-requires c κs =
+    let s = c .before .before .before .before .before .before .before .before .before .before .before .before .before .before .before .before .before .before in
+    (s .pre .0, (s .pre .1 .1 .0, (record { are = c .before .before .before .before .before .before .before .factors .ensures }, omega (arith, s .pre .1 .1 .1, c .before .before .before .before .before .before .before .before .before .out .given, c .before .before .before .out2 .given))))
+
 returns : tie.Need-returns
 unfolding opcodes
 returns c = sym (search (putNext, putOf, joins, arithOf, lengths, room) depth 30 fits 100000)
@@ -23,4 +33,4 @@ returns c = sym (search (putNext, putOf, joins, arithOf, lengths, room) depth 30
 pub eval-opcodes-spec : {M : Type 1} → statement M
 eval-opcodes-spec =
     tie.close
-    (tie.spec (λ c κs. search needs) (λ c. search needs) (λ c κs. search needs) (λ c κs. search needs) (λ c κs. search needs) (λ c. search needs) returns)
+    (tie.spec (λ c κs. search needs) (λ c. search needs) (λ c κs. search needs) (λ c κs. search needs) (λ c. search needs) tape-requires (λ c. search needs) call-sc-requires (λ c. search needs) returns)

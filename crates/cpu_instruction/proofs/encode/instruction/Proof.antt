@@ -16,7 +16,7 @@ row c = c .pre
 
 returns : tie.Need-returns
 unfolding instruction
-returns c = (sym (search (exprs, helpers, wide-sums) depth 100 fits 100000), search sum-below)
+returns c = (sym (search (exprs, helpers, wide-sums, tt) depth 100 fits 100000), search sum-below)
 
 pub instruction-spec : {M : Type 1} → statement M
 instruction-spec = tie.close (search (tie.spec, returns, places, loop-places, helpers-below, reduced-below, row))

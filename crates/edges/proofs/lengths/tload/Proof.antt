@@ -1,7 +1,7 @@
 -- `edges::lengths::tload` meets its contract.
 use mathlib.Core.Path.{ap, _∙_}
 use borrow.Author.Needs.{needs}
-use Rattle.residue.specs.Answer.{value}
+use Rattle.checked_residue.specs.Answer.{value}
 use Rattle.edges.proofs.lengths.tload.Statement.{statement}
 use Rattle.edges.proofs.lengths.tload.Tie as tie
 

@@ -5,7 +5,7 @@ use Rattle.algebra.specs.Expr.{eval}
 use Rattle.refusals.specs.Refusal.{canonical}
 use Rattle.residue.specs.Residues.{addP, negP, mulP}
 use Rattle.table.specs.CpuStark.{lv-ext-length}
-use Rattle.adjacent_rows.specs.RowValue.{rowValue}
+use Rattle.row_values.specs.RowValue.{rowValue}
 use Rattle.edges.proofs.lengths.worked.Statement.{statement}
 use Rattle.edges.proofs.lengths.worked.Tie as tie
 

@@ -2,8 +2,8 @@
 use mathlib.Core.Path.{ap, _∙_}
 use borrow.Author.Tests.{eq-eqb}
 use borrow.Author.Needs.{needs}
-use Rattle.runs.specs.Report.{pairOf, valueOf}
-use Rattle.runs.specs.declared.Report.{Report}
+use Rattle.answers.specs.Spot.{pairOf, valueOf}
+use Rattle.answers.specs.declared.Report.{Report}
 use Rattle.edges.proofs.Answers.{no-rows, one-row}
 use Rattle.edges.proofs.reports.edges.Statement.{statement}
 use Rattle.edges.proofs.reports.edges.Tie as tie

@@ -2,7 +2,7 @@
 use mathlib.Core.Path.{refl}
 use borrow.Author.Needs.{needs}
 use Rattle.refusals.specs.Refusal.{canonical}
-use Rattle.residue.specs.Answer.{number}
+use Rattle.checked_residue.specs.Answer.{number}
 use Rattle.edges.proofs.Operands.{expected}
 use Rattle.edges.proofs.residues.accepted.Statement.{statement}
 use Rattle.edges.proofs.residues.accepted.Tie as tie

@@ -1,7 +1,7 @@
 -- `edges::residues::refused` meets its contract.
 use borrow.Author.Needs.{needs}
 use Rattle.residue.specs.Residues.{addP, subP, mulP}
-use Rattle.residue.specs.Answer.{number}
+use Rattle.checked_residue.specs.Answer.{number}
 use Rattle.edges.proofs.Operands.{expected, left-seven, right-seven}
 use Rattle.edges.proofs.residues.refused.Statement.{statement}
 use Rattle.edges.proofs.residues.refused.Tie as tie

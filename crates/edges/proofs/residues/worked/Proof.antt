@@ -3,7 +3,7 @@ use mathlib.Core.Path.{refl}
 use borrow.Author.Needs.{needs}
 use Rattle.refusals.specs.Refusal.{canonical}
 use Rattle.residue.specs.Residues.{addP, negP, subP, mulP}
-use Rattle.residue.specs.Answer.{value}
+use Rattle.checked_residue.specs.Answer.{value}
 use Rattle.edges.proofs.Operands.{expected}
 use Rattle.edges.proofs.residues.worked.Statement.{statement}
 use Rattle.edges.proofs.residues.worked.Tie as tie

@@ -2,7 +2,7 @@
 use mathlib.Core.Path.{refl, sym}
 use borrow.Author.Needs.{needs}
 use Rattle.text.specs.Decimal.{decimalOf, digitsOf}
-use Rattle.rowdesk_steps.specs.Lines.{lineOf, refusedOf}
+use Rattle.rowdesk_lines.specs.Lines.{lineOf, refusedOf}
 use Rattle.rowdesk_steps.specs.Model.{rowOf, endOf, feedOf}
 use Rattle.edges.proofs.ZeroRows.{end-line}
 use Rattle.edges.proofs.steps.edges.Statement.{statement}

@@ -4,7 +4,7 @@ use Prim.Native.Nat.{ℕ}
 use lib.ListN.{replicate}
 use lib.Seq.{length-take-le}
 use borrow.Author.Needs.{needs}
-use Rattle.pair.specs.PairValues.{pairValuesRefusal}
+use Rattle.pair_checks.specs.PairValues.{pairValuesRefusal}
 use Rattle.worked.specs.Rows.{lastMask, lastColumn}
 use Rattle.edges.proofs.values.ask.Statement.{statement}
 use Rattle.edges.proofs.values.ask.Tie as tie

@@ -14,13 +14,18 @@ use Rattle.stage_opcodes.proofs.tape.eval_packed_generic.Statement.{sta
 use Rattle.stage_opcodes.proofs.tape.eval_packed_generic.Tie as tie
 
 room : (c : tie.Start) → c .args .at ≤ length (now (c .args .out))
-room c = omega (arith, c .pre .1)
+room c = omega (arith, c .pre .1 .1)
 
 fits : (c : tie.After-slice-known) → c .before .before .before .args .at + 21 < 2 ^ 64
-fits c = omega (arith, c .before .before .before .pre .1)
+fits c = omega (arith, c .before .before .before .pre .1 .1)
 
 add-put-3 : tie.Need-add-put-3
-add-put-3 c = omega (arith, fits (c .before .before .before .before .before .before .before .before .before .before .before .before .before .before .before .before .before .before .before .before))
+add-put-3 c = omega (arith, fits (c .before .before .before .before .before .before .before .before .before .before .before .before .before .before .before .before .before .before .before .before .before))
+
+put-requires-4 : tie.Need-put-requires-4
+put-requires-4 c κs =
+    let n : c .before .before .before .before .before .before .before .before .before .before .before .before .before .before .before .before .before .before .before .before .before .before .before .before .before .args .at + 17 + 4 ≤ length (now (c .before .before .before .before .before .before .before .before .before .before .before .before .before .before .before .before .before .before .before .before .before .before .before .before .before .args .out)) = omega (arith, c .before .before .before .before .before .before .before .before .before .before .before .before .before .before .before .before .before .before .before .before .before .before .before .before .before .pre .1 .1) in
+    omega (arith, n, c .before .before .before .before .before .before .before .before .before .before .before .before .before .before .before .before .out .given, c .before .before .before .before .before .before .before .before .before .before .out2 .given, c .before .before .before .before .out3 .given)
 
 returns : tie.Need-returns
 unfolding tape
@@ -29,4 +34,4 @@ returns c = sym (search (putNext, putOf, groups, tp-groups, lengths, room) depth
 pub eval-packed-generic-spec : {M : Type 1} → statement M
 eval-packed-generic-spec =
     tie.close
-    (tie.spec (λ c κs. search needs) (λ c. search needs) (λ c κs. search needs) (λ c κs. search needs) (λ c. search needs) (λ c. search needs) (λ c κs. search needs) (λ c κs. search needs) (λ c. search needs) (λ c. search needs) (λ c κs. search needs) (λ c κs. search needs) add-put-3 (λ c. search needs) (λ c κs. search needs) (λ c. search needs) returns)
+    (tie.spec (λ c κs. search needs) (λ c. search needs) (λ c κs. search needs) (λ c κs. search needs) (λ c. search needs) (λ c. search needs) (λ c κs. search needs) (λ c κs. search needs) (λ c. search needs) (λ c. search needs) (λ c κs. search needs) (λ c κs. search needs) add-put-3 (λ c. search needs) put-requires-4 (λ c. search needs) returns)
