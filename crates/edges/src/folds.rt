@@ -3,11 +3,11 @@ ghost use mathlib.Core.Path.{_≡_};
 ghost use mathlib.Core.List.{[], _∷_};
 ghost use Prim.Native.Nat.{_≤_};
 ghost use lib.ListN.{take, replicate};
-ghost use Rattle.pair_fold.specs.PairFold.{pairFoldRefusal};
+ghost use Rattle.pair_fold_checks.specs.PairFold.{pairFoldRefusal};
 ghost use Rattle.worked.specs.Rows.{powers, zeros};
-use crate::lines;
 use crate::masks::POWERS;
 use algebra::P;
+use edge_residues::lines;
 use table::columns::NUM_CPU_COLS;
 
 // One more than the most alphas.

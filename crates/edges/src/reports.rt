@@ -3,10 +3,10 @@ ghost use mathlib.Core.Path.{_≡_};
 ghost use Rattle.answers.specs.Spot.{pairOf, valueOf};
 ghost use Rattle.runs.specs.Report.{reportOf};
 ghost use Rattle.worked.specs.Rows.{powers};
-use crate::lines;
 use crate::masks::POWERS;
 use answers::Report;
 use answers::Spot;
+use edge_residues::lines;
 use libc::STDOUT_FILENO;
 use table::columns::NUM_CPU_COLS;
 

@@ -4,7 +4,7 @@ ghost use lib.ListN.{length};
 ghost use Rattle.residue.specs.Residues.{addP, subP, mulP};
 ghost use Rattle.checked_residue.specs.Answer.{checked};
 ghost use Rattle.pair_checks.specs.PairValues.{pairValuesRefusal, pairValuesBuffer};
-ghost use Rattle.pair_fold.specs.PairFold.{pairFoldRefusal, pairFoldAccumulators};
+ghost use Rattle.pair_fold_checks.specs.PairFold.{pairFoldRefusal, pairFoldAccumulators};
 ghost use Rattle.judge.specs.Verdict.{verdictOf};
 ghost use Rattle.runs.specs.Report.{reportOf};
 ghost use Rattle.flat.specs.Flat.{flatResidue, flatVerdict, flatReport};

@@ -18,8 +18,8 @@ use Rattle.consumer.specs.Consumer.{made, accumulators}
 use Rattle.consumer.specs.Yielded.{Yielded, takenAll, folds}
 use Rattle.consumer.proofs.Laws.{accepted, some, few, alike, new-given}
 use Rattle.consumer.proofs.Folds.{handed-back, yielded, yielded-values}
-use Rattle.pair_fold.specs.PairFold.{pairFoldRefusal, pairFoldAccumulators}
-use Rattle.pair_fold.proofs.Laws.{z-below, f-below, cells-canonical, consumer-clear, alphas-canonical, accumulators-canonical, accumulators-folded}
+use Rattle.pair_fold_checks.specs.PairFold.{pairFoldRefusal, pairFoldAccumulators}
+use Rattle.pair_fold_checks.proofs.Laws.{z-below, f-below, cells-canonical, consumer-clear, alphas-canonical, accumulators-canonical, accumulators-folded}
 
 -- every entry of the table has a canonical value before its weight is applied
 abbrev bare : Entry → Bool

@@ -28,7 +28,7 @@ use Rattle.rulebook.proofs.Weights.{reads-rows, fair, value-lt}
 use Rattle.rulebook.proofs.Pair.{fair-table, pair, same-rows, canonical-cells}
 use Rattle.rulebook.proofs.Theorem.{values-of-rules, rules-of-values}
 use Rattle.consumer.specs.Yielded.{folds}
-use Rattle.pair_fold.specs.PairFold.{pairFoldRefusal, pairFoldAccumulators}
+use Rattle.pair_fold_checks.specs.PairFold.{pairFoldRefusal, pairFoldAccumulators}
 use Rattle.theorems.specs.ManyFold.{FoldsToZero, Many}
 use Rattle.theorems.proofs.Roots.{zero-values, zeros-fold}
 

@@ -20,7 +20,7 @@ use Rattle.rulebook.specs.Kind.{firstOne, kindOf}
 use Rattle.rulebook.specs.Rulebook.{ext-length, size, rules-G}
 use Rattle.rulebook.proofs.Open.{open-table}
 use Rattle.consumer.specs.Yielded.{folds}
-use Rattle.pair_fold.specs.PairFold.{pairFoldRefusal, pairFoldAccumulators}
+use Rattle.pair_fold_checks.specs.PairFold.{pairFoldRefusal, pairFoldAccumulators}
 use Rattle.run_pairs.specs.Run.{rowAt, pairAt, tabulate, pairsOf, runRefusal}
 use Rattle.words.specs.Words.{words, littleEndian}
 use Rattle.text.specs.Decimal.{decimalOf, digitsOf}

@@ -2,7 +2,7 @@
 use borrow.Author.Tests.{eq-eqb}
 use borrow.Author.Needs.{needs}
 use Rattle.refusals.specs.Refusal.{canonical, member, distinct}
-use Rattle.pair_fold.specs.PairFold.{pairFoldRefusal}
+use Rattle.pair_fold_checks.specs.PairFold.{pairFoldRefusal}
 use Rattle.edges.proofs.folds.counts.Statement.{statement}
 use Rattle.edges.proofs.folds.counts.Tie as tie
 

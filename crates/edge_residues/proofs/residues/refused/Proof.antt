@@ -1,10 +1,10 @@
--- `edges::residues::refused` meets its contract.
+-- `edge_residues::residues::refused` meets its contract.
 use borrow.Author.Needs.{needs}
 use Rattle.residue.specs.Residues.{addP, subP, mulP}
 use Rattle.checked_residue.specs.Answer.{number}
-use Rattle.edges.proofs.Operands.{expected, left-seven, right-seven}
-use Rattle.edges.proofs.residues.refused.Statement.{statement}
-use Rattle.edges.proofs.residues.refused.Tie as tie
+use Rattle.edge_residues.proofs.Operands.{expected, left-seven, right-seven}
+use Rattle.edge_residues.proofs.residues.refused.Statement.{statement}
+use Rattle.edge_residues.proofs.residues.refused.Tie as tie
 
 expect-requires : tie.Need-expect-requires
 expect-requires c κs = expected number (c .before .add .ensures) (c .number .ensures) (left-seven addP _ _ (search needs))

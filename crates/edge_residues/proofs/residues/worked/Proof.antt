@@ -1,12 +1,12 @@
--- `edges::residues::worked` meets its contract.
+-- `edge_residues::residues::worked` meets its contract.
 use mathlib.Core.Path.{refl}
 use borrow.Author.Needs.{needs}
 use Rattle.refusals.specs.Refusal.{canonical}
 use Rattle.residue.specs.Residues.{addP, negP, subP, mulP}
 use Rattle.checked_residue.specs.Answer.{value}
-use Rattle.edges.proofs.Operands.{expected}
-use Rattle.edges.proofs.residues.worked.Statement.{statement}
-use Rattle.edges.proofs.residues.worked.Tie as tie
+use Rattle.edge_residues.proofs.Operands.{expected}
+use Rattle.edge_residues.proofs.residues.worked.Statement.{statement}
+use Rattle.edge_residues.proofs.residues.worked.Tie as tie
 
 expect-requires : tie.Need-expect-requires
 unfolding canonical mulP

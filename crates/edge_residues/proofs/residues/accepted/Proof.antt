@@ -1,11 +1,11 @@
--- `edges::residues::accepted` meets its contract.
+-- `edge_residues::residues::accepted` meets its contract.
 use mathlib.Core.Path.{refl}
 use borrow.Author.Needs.{needs}
 use Rattle.refusals.specs.Refusal.{canonical}
 use Rattle.checked_residue.specs.Answer.{number}
-use Rattle.edges.proofs.Operands.{expected}
-use Rattle.edges.proofs.residues.accepted.Statement.{statement}
-use Rattle.edges.proofs.residues.accepted.Tie as tie
+use Rattle.edge_residues.proofs.Operands.{expected}
+use Rattle.edge_residues.proofs.residues.accepted.Statement.{statement}
+use Rattle.edge_residues.proofs.residues.accepted.Tie as tie
 
 expect-requires : tie.Need-expect-requires
 unfolding canonical
