@@ -4,7 +4,8 @@
  *
  * p is FELMUGO_P, 2^64 - 2^32 + 1. A row is 94 values, a list of masks 25, and the values of a pair
  * are 226, all below p. A pointer is followed by its length, counted in values; one whose length is
- * 0 may be NULL. What is written to must not overlap what is read.
+ * 0 may be NULL. The buffer that a call writes to must not overlap another of the same call, and
+ * nobody else may write to a lent buffer meanwhile; buffers that are only read may overlap.
  *
  * A number is 0, or that of a refusal. Of the reasons that apply, the lowest number is answered; a
  * refused call leaves lent memory as it was, and the other numbers of its answer are 0. */

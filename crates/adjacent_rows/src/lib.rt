@@ -1,10 +1,9 @@
 // The adjacent rows of cpu_stark.rs: a record that refers to both lent rows, over a core that takes the
 // rows plainly (crates row_values and pair).
 ghost use mathlib.Core.Path.{_≡_};
-ghost use lib.ListN.{length};
 ghost use Rattle.table.specs.CpuStark.{lv-is-ext-inst, lv-ext-length};
 ghost use Rattle.row_values.specs.RowValue.{rowValue};
-ghost use Rattle.pair_checks.specs.PairValues.{pairValuesRefusal, pairValuesBuffer};
+ghost use Rattle.pair_checks.specs.PairValues.{PairValuesCall};
 use checked_residue::Residue;
 
 pub struct CpuAdjacentRowWrapper<'a, 'b> {
@@ -40,7 +39,7 @@ impl<'a, 'b> CpuAdjacentRowWrapper<'a, 'b> {
         lagrange_basis_first: u64,
         out: &mut [u64],
     ) -> u64
-        ensures { λ r. ⌜ (r ≡ pairValuesRefusal (now (masks .entry)) (now (self .entry .lv)) (now (self .entry .nv)) «z_last» «lagrange_basis_first» (length (now (out .entry)))) × (now (out .exit) ≡ pairValuesBuffer (now (masks .entry)) (now (self .entry .lv)) (now (self .entry .nv)) «z_last» «lagrange_basis_first» (now (out .entry))) ⌝ }
+        ensures { λ r. ⌜ PairValuesCall (now (masks .entry)) (now (self .entry .lv)) (now (self .entry .nv)) «z_last» «lagrange_basis_first» (now (out .entry)) r (now (out .exit)) ⌝ }
     {
         pair::pair_values(masks, self.lv, self.nv, z_last, lagrange_basis_first, out)
     }
@@ -48,14 +47,14 @@ impl<'a, 'b> CpuAdjacentRowWrapper<'a, 'b> {
 
 // Plain parameters: the record is made and opened inside, so that a caller's proof needs no walk.
 pub fn adjacent_values(
+    masks: &[u64],
     lv: &[u64],
     nv: &[u64],
-    masks: &[u64],
     z_last: u64,
     lagrange_basis_first: u64,
     out: &mut [u64],
 ) -> u64
-    ensures { λ r. ⌜ (r ≡ pairValuesRefusal (now (masks .entry)) (now (lv .entry)) (now (nv .entry)) «z_last» «lagrange_basis_first» (length (now (out .entry)))) × (now (out .exit) ≡ pairValuesBuffer (now (masks .entry)) (now (lv .entry)) (now (nv .entry)) «z_last» «lagrange_basis_first» (now (out .entry))) ⌝ }
+    ensures { λ r. ⌜ PairValuesCall (now (masks .entry)) (now (lv .entry)) (now (nv .entry)) «z_last» «lagrange_basis_first» (now (out .entry)) r (now (out .exit)) ⌝ }
 {
     CpuAdjacentRowWrapper::from_vars(lv, nv).pair_values(masks, z_last, lagrange_basis_first, out)
 }

@@ -3,6 +3,7 @@ pub mod Expr
 pub mod Solve
 pub mod Identities
 pub mod Lists
+pub mod Slices
 pub mod Roots
 pub mod Modulo
 pub mod Power

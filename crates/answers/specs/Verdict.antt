@@ -1,6 +1,6 @@
--- A verdict as numbers, and the verdict of a call that may be turned back.
+-- A verdict as numbers, and the verdict on a pair.
 use mathlib.Core.Bool.{Bool, cond}
-use Prim.Native.Nat.{ℕ, zero, suc}
+use Prim.Native.Nat.{ℕ}
 use Rattle.answers.specs.declared.Verdict.{Verdict}
 use Rattle.answers.specs.declared.Verdict.the-variants.{Keeps, Breaks, Refused}
 
@@ -15,7 +15,6 @@ keepsOf Keeps = 1
 keepsOf Breaks = 0
 keepsOf (Refused n) = 0
 
--- "keeps" or "breaks", unless a number turns the call back
-abbrev pub unless : ℕ → Bool → Verdict
-unless zero b = cond b Keeps Breaks
-unless (suc n) b = Refused (suc n)
+-- "keeps" where every rule is kept, else "breaks"
+abbrev pub judged : Bool → Verdict
+judged keeps = cond keeps Keeps Breaks

@@ -1,16 +1,16 @@
 -- What the refusal of two operands tells: shared by the entries of src/lib.rt.
-use mathlib.Core.Path.{_≡_, refl, ap}
-use mathlib.Core.Bool.{Bool, true, false, cond, not, _&&_}
+use mathlib.Core.Path.{_≡_, refl, ap, _∙_}
+use mathlib.Core.Bool.{Bool, true, false, cond, not, _&&_, and-false}
 use mathlib.Core.List.{[], _∷_}
-use Prim.Native.Nat.{ℕ, zero, suc, _<_, _≤_}
+use Prim.Native.Nat.{ℕ, _<_, _≤_}
 use lib.Dec.{ltb}
 use borrow.Author.Tests.{lt-ltb, le-ltb, ltb-true}
 use native.Mathlib.Omega.{arith}
 use Rattle.algebra.specs.Prime.{p}
-use Rattle.refusals.specs.Refusal.{lowest, notBelowP, canonical}
+use Rattle.refusals.specs.Refusal.{lowest, unless, notBelowP, canonical}
+use Rattle.refusals.proofs.Laws.{refused-unless, given-unless}
 use Rattle.checked_residue.specs.declared.Residue.the-variants.{Value, Refused}
 use Rattle.residue.specs.Residues.{Canonical}
-use Rattle.checked_residue.specs.Answer.{unless}
 
 module _ (a b : ℕ) where
   abbrev number : ℕ
@@ -20,9 +20,9 @@ module _ (a b : ℕ) where
   unfolding canonical
   left-refused h = simp (le-ltb _ _ h)
 
-  pub right-refused : a < p → p ≤ b → 7 ≡ number
+  pub right-refused : p ≤ b → 7 ≡ number
   unfolding canonical
-  right-refused h k = simp (lt-ltb _ _ h, le-ltb _ _ k)
+  right-refused h = simp (le-ltb _ _ h, and-false)
 
   pub accepted : a < p → b < p → 0 ≡ number
   unfolding canonical
@@ -38,10 +38,8 @@ module _ (a b : ℕ) where
       go true false f g e = absurd (omega arith)
       go false t f g e = absurd (omega arith)
 
-pub refused : (n m v : ℕ) → n ≡ m → (n ≡ 0 → ⊥) → Refused n ≡ unless m v
-refused n zero v e h = absurd (h e)
-refused n (suc m) v e h = ap Refused e
+pub refused : (n m v : ℕ) → n ≡ m → (n ≡ 0 → ⊥) → Refused n ≡ unless m Refused (Value v)
+refused n m v = refused-unless Refused (Value v) n m
 
-pub given : (m r v : ℕ) → m ≡ 0 → r ≡ v → Value r ≡ unless m v
-given zero r v z e = ap Value e
-given (suc m) r v z e = absurd (omega arith)
+pub given : (m r v : ℕ) → m ≡ 0 → r ≡ v → Value r ≡ unless m Refused (Value v)
+given m r v z e = ap Value e ∙ given-unless Refused (Value v) m z

@@ -1,7 +1,7 @@
 -- What the entries of src/lib.rt answer.
 use mathlib.Core.List.{[], _∷_}
-use Prim.Native.Nat.{ℕ, zero, suc}
-use Rattle.refusals.specs.Refusal.{lowest, notBelowP}
+use Prim.Native.Nat.{ℕ}
+use Rattle.refusals.specs.Refusal.{lowest, unless, notBelowP}
 use Rattle.checked_residue.specs.declared.Residue.{Residue}
 use Rattle.checked_residue.specs.declared.Residue.the-variants.{Value, Refused}
 
@@ -14,11 +14,6 @@ abbrev pub value : Residue → ℕ
 value (Value v) = v
 value (Refused n) = 0
 
--- the value, unless a number turns the call back
-abbrev pub unless : ℕ → ℕ → Residue
-unless zero v = Value v
-unless (suc n) v = Refused (suc n)
-
 -- the value f a b, unless an operand is not below p
 abbrev pub checked : (ℕ → ℕ → ℕ) → ℕ → ℕ → Residue
-checked f a b = unless (lowest (notBelowP (a ∷ b ∷ []) ∷ [])) (f a b)
+checked f a b = unless (lowest (notBelowP (a ∷ b ∷ []) ∷ [])) Refused (Value (f a b))

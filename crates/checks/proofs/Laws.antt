@@ -1,15 +1,15 @@
 -- What a test that a branch asked for tells of the definition that it equals.
 use mathlib.Core.Path.{_≡_, sym, ap, _∙_}
 use mathlib.Core.Bool.{Bool, true, false, not, _&&_}
-use mathlib.Core.List.{List}
+use mathlib.Core.List.{List, [], _++_}
 use Prim.Native.Nat.{ℕ, _+_, _≤_, _<_}
 use native.Mathlib.Omega.{arith}
 use lib.ListN.{length, getD, drop}
 use lib.Dec.{ltb}
 use borrow.Author.Tests.{not-false}
 use Rattle.algebra.specs.Prime.{p}
-use Rattle.refusals.specs.Refusal.{lowest, maskContents, rowContents, sizes, contents, canonical}
-use Rattle.refusals.proofs.Laws.{clear, length-is, canonical-below, none-true, canonical-at}
+use Rattle.refusals.specs.Refusal.{Condition, lowest, maskContents, rowContents, sizes, contents, canonical}
+use Rattle.refusals.proofs.Laws.{Clear, clear, clear-front, clear-back, behind, length-is, canonical-below, none-true, canonical-at}
 use Rattle.table.specs.Rows.{Row, Rows, Masks}
 
 -- of a test r of the definition b, denied by `!`
@@ -42,6 +42,22 @@ module _ (masks lv nv : List ℕ) (s : lowest (sizes masks lv nv) ≡ 0) where
 
     pub masks-are : Masks masks
     masks-are = accepted-masks masks masks-length (clear (contents masks lv nv) tt k .0)
+
+-- the same of a call that no condition turns back: those on sizes, more of them, those on contents, and the rest
+module _ (masks lv nv : List ℕ) (more rest : List Condition) (k : Clear (sizes masks lv nv ++ more ++ contents masks lv nv ++ rest)) where
+  sizes-clear : lowest (sizes masks lv nv) ≡ 0
+  sizes-clear = behind (sizes masks lv nv) [] (clear-front (sizes masks lv nv) (more ++ contents masks lv nv ++ rest) k)
+
+  contents-clear : lowest (contents masks lv nv) ≡ 0
+  contents-clear =
+      let l = clear-front (sizes masks lv nv ++ more ++ contents masks lv nv) rest k in
+      behind (contents masks lv nv) [] (clear-back (sizes masks lv nv ++ more) (contents masks lv nv) l)
+
+  pub call-rows : Rows lv nv
+  call-rows = rows-are masks lv nv sizes-clear contents-clear
+
+  pub call-masks : Masks masks
+  call-masks = masks-are masks lv nv sizes-clear contents-clear
 
 -- four numbers, and those behind them
 pub canonical-four : (a : List ℕ) (i : ℕ) → i + 4 ≤ length a →

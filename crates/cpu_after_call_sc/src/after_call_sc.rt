@@ -6,7 +6,8 @@ ghost use Rattle.table.specs.Cells.{cells};
 ghost use Rattle.table.specs.Rows.{Row, Rows};
 ghost use Rattle.table.specs.Entry.{values};
 ghost use Rattle.table.specs.CallSc.{call-sc-cleared-head, call-sc-cleared-regs, call-sc-ctx-regs, call-sc-end, call-sc-filters};
-ghost use Rattle.cpu_factors.specs.Factors.{Given};
+ghost use Rattle.table.specs.Shared.{Shared};
+ghost use Rattle.cpu_factors.specs.Factors.{row-factors};
 use cpu_factors::AFTER_CALL_SC;
 use cpu_factors::CALL_SC_EXT_LINE;
 use cpu_factors::CALL_SC_MAIN_LINE;
@@ -20,7 +21,7 @@ use table::columns::*;
 // 197 and 198: after call_sc, pc, clk, reg should be zero
 pub fn call_sc_cleared_head(lv: &[u64], nv: &[u64], factors: &[u64]) -> [u64; 2]
     requires rows { ⌜ Rows (now lv) (now nv) ⌝ }
-    requires factors { ⌜ Given (now lv) (now factors) ⌝ }
+    requires factors { ⌜ Shared row-factors (now lv) [] (now factors) ⌝ }
     ensures { λ r. ⌜ r ≡ values residues (cells [] (now (lv .entry)) (now (nv .entry)) 0 0) call-sc-cleared-head ⌝ }
 {
     let after_call_sc = factors[AFTER_CALL_SC];
@@ -33,7 +34,7 @@ pub fn call_sc_cleared_head(lv: &[u64], nv: &[u64], factors: &[u64]) -> [u64; 2]
 // 199 to 208: the registers
 pub fn call_sc_cleared_regs(lv: &[u64], nv: &[u64], factors: &[u64]) -> [u64; 10]
     requires rows { ⌜ Rows (now lv) (now nv) ⌝ }
-    requires factors { ⌜ Given (now lv) (now factors) ⌝ }
+    requires factors { ⌜ Shared row-factors (now lv) [] (now factors) ⌝ }
     ensures { λ r. ⌜ r ≡ values residues (cells [] (now (lv .entry)) (now (nv .entry)) 0 0) call-sc-cleared-regs ⌝ }
 {
     scaled(factors[AFTER_CALL_SC], &nv[COL_REGS_START..COL_REGS_END])
@@ -42,7 +43,7 @@ pub fn call_sc_cleared_regs(lv: &[u64], nv: &[u64], factors: &[u64]) -> [u64; 10
 // 209 to 216: ctx should be same as last line
 pub fn call_sc_ctx_regs(lv: &[u64], nv: &[u64], factors: &[u64]) -> [u64; 8]
     requires rows { ⌜ Rows (now lv) (now nv) ⌝ }
-    requires factors { ⌜ Given (now lv) (now factors) ⌝ }
+    requires factors { ⌜ Shared row-factors (now lv) [] (now factors) ⌝ }
     ensures { λ r. ⌜ r ≡ values residues (cells [] (now (lv .entry)) (now (nv .entry)) 0 0) call-sc-ctx-regs ⌝ }
 {
     ctx_differences(factors[AFTER_CALL_SC], lv, nv)
@@ -51,7 +52,7 @@ pub fn call_sc_ctx_regs(lv: &[u64], nv: &[u64], factors: &[u64]) -> [u64; 8]
 // 217 and 218: end ext next line, pc, clk not change
 pub fn call_sc_end(lv: &[u64], nv: &[u64], factors: &[u64]) -> [u64; 2]
     requires rows { ⌜ Rows (now lv) (now nv) ⌝ }
-    requires factors { ⌜ Given (now lv) (now factors) ⌝ }
+    requires factors { ⌜ Shared row-factors (now lv) [] (now factors) ⌝ }
     ensures { λ r. ⌜ r ≡ values residues (cells [] (now (lv .entry)) (now (nv .entry)) 0 0) call-sc-end ⌝ }
 {
     let is_crossing_inst = lv[COL_IS_NEXT_LINE_DIFF_INST];
@@ -65,7 +66,7 @@ pub fn call_sc_end(lv: &[u64], nv: &[u64], factors: &[u64]) -> [u64; 2]
 // 219 to 226: the filters of the ext lines
 pub fn call_sc_filters(lv: &[u64], factors: &[u64]) -> [u64; 8]
     requires row { ⌜ Row (now lv) ⌝ }
-    requires factors { ⌜ Given (now lv) (now factors) ⌝ }
+    requires factors { ⌜ Shared row-factors (now lv) [] (now factors) ⌝ }
     ensures { λ r. ⌜ r ≡ values residues (cells [] (now (lv .entry)) [] 0 0) call-sc-filters ⌝ }
 {
     let s_end = lv[COL_S_END];

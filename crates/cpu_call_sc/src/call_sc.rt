@@ -8,7 +8,8 @@ ghost use Rattle.table.specs.Cells.{cells};
 ghost use Rattle.table.specs.Rows.{Rows};
 ghost use Rattle.table.specs.Entry.{values};
 ghost use Rattle.table.specs.CallSc.{call-sc-addresses, call-sc-operands};
-ghost use Rattle.cpu_factors.specs.Factors.{Given};
+ghost use Rattle.table.specs.Shared.{Shared};
+ghost use Rattle.cpu_factors.specs.Factors.{row-factors};
 use cpu_factors::CALL_SC_MAIN_LINE;
 use residue::below::sub;
 use residue::mul;
@@ -18,7 +19,7 @@ use table::columns::*;
 // caller code addr
 pub fn call_sc_addresses(lv: &[u64], nv: &[u64], factors: &[u64]) -> [u64; 8]
     requires rows { ⌜ Rows (now lv) (now nv) ⌝ }
-    requires factors { ⌜ Given (now lv) (now factors) ⌝ }
+    requires factors { ⌜ Shared row-factors (now lv) [] (now factors) ⌝ }
     ensures { λ r. ⌜ r ≡ values residues (cells [] (now (lv .entry)) (now (nv .entry)) 0 0) call-sc-addresses ⌝ }
 {
     let addr_storage = &lv[COL_ADDR_STORAGE_RANGE_START..COL_ADDR_STORAGE_RANGE_END];
@@ -41,7 +42,7 @@ pub fn call_sc_addresses(lv: &[u64], nv: &[u64], factors: &[u64]) -> [u64; 8]
 pub fn call_sc_operands(lv: &[u64], nv: &[u64], z_last: u64, factors: &[u64]) -> [u64; 4]
     requires rows { ⌜ Rows (now lv) (now nv) ⌝ }
     requires weight { ⌜ «z_last» < p ⌝ }
-    requires factors { ⌜ Given (now lv) (now factors) ⌝ }
+    requires factors { ⌜ Shared row-factors (now lv) [] (now factors) ⌝ }
     ensures { λ r. ⌜ r ≡ values residues (cells [] (now (lv .entry)) (now (nv .entry)) «z_last» 0) call-sc-operands ⌝ }
 {
     let is_crossing_inst = lv[COL_IS_NEXT_LINE_DIFF_INST];

@@ -1,12 +1,12 @@
 // CpuStark::constraint_ext_lines (D): how many ext lines an instruction has, and what they keep.
 ghost use mathlib.Core.Path.{_≡_};
-ghost use mathlib.Core.List.{[]};
+ghost use mathlib.Core.List.{[], _∷_};
 ghost use Rattle.residue.specs.Residues.{residues};
 ghost use Rattle.table.specs.Rows.{Rows};
+ghost use Rattle.table.specs.Shared.{Shared};
 ghost use Rattle.table.specs.Cells.{cells};
 ghost use Rattle.table.specs.Entry.{values};
-ghost use Rattle.table.specs.CpuStark.{ext-lines-counts, ext-lines-opcode, ext-lines-selectors, ext-lines-op1-imm};
-ghost use Rattle.cpu_wrapper.specs.Length.{Length};
+ghost use Rattle.table.specs.CpuStark.{lv-ext-length, ext-lines-counts, ext-lines-opcode, ext-lines-selectors, ext-lines-op1-imm};
 use cpu_wrapper::wrapper::is_ext_inst;
 use residue::below::sub;
 use residue::mul;
@@ -17,7 +17,7 @@ const OP_SELECTORS_END: usize = COL_S_SIMPLE_ARITHMATIC_OP + NUM_OP_SELECTOR;
 
 pub fn ext_lines_counts(lv: &[u64], nv: &[u64], ext_length: u64) -> [u64; 4]
     requires rows { ⌜ Rows (now lv) (now nv) ⌝ }
-    requires length { ⌜ Length (now lv) «ext_length» ⌝ }
+    requires length { ⌜ Shared (lv-ext-length ∷ []) (now lv) [] («ext_length» ∷ []) ⌝ }
     ensures { λ r. ⌜ r ≡ values residues (cells [] (now (lv .entry)) (now (nv .entry)) 0 0) ext-lines-counts ⌝ }
 {
     let lv_is_ext_inst = is_ext_inst(lv);

@@ -1,11 +1,8 @@
 -- Products of a row's selectors and flags that several constraints of tape.rs and call_sc.rs begin with.
-use mathlib.Core.Path.{_≡_}
 use mathlib.Core.List.{List, [], _∷_}
-use Prim.Native.Nat.{ℕ}
-use Rattle.algebra.specs.Expr.{Expr, _⊕_, _⊖_, _⊗_, eval}
-use Rattle.residue.specs.Residues.{residues}
+use Rattle.algebra.specs.Expr.{Expr, _⊕_, _⊖_, _⊗_}
 use Rattle.table.specs.Columns.{COL-IS-EXT-LINE, COL-S-TLOAD, COL-S-TSTORE, COL-S-CALL-SC, COL-S-END}
-use Rattle.table.specs.Cells.{Cell, cells, lv}
+use Rattle.table.specs.Cells.{Cell, lv}
 use Rattle.table.specs.Entry.{𝟙}
 use Rattle.table.specs.CpuStark.{is-crossing-inst}
 
@@ -27,17 +24,6 @@ tape-ext-line = (lv COL-S-TSTORE ⊕ lv COL-S-TLOAD) ⊗ lv COL-IS-EXT-LINE
 abbrev pub tstore-main-line : Expr Cell
 tstore-main-line = lv COL-S-TSTORE ⊗ (𝟙 ⊖ lv COL-IS-EXT-LINE)
 
--- their values over a row
-unfoldable pub factors : List ℕ → List ℕ
-factors l =
-    eval residues (cells [] l [] 0 0) call-sc-main-line
-    ∷ eval residues (cells [] l [] 0 0) call-sc-ext-line
-    ∷ eval residues (cells [] l [] 0 0) after-call-sc
-    ∷ eval residues (cells [] l [] 0 0) end-ext-line
-    ∷ eval residues (cells [] l [] 0 0) tape-ext-line
-    ∷ eval residues (cells [] l [] 0 0) tstore-main-line
-    ∷ []
-
--- those of a row, given to a function
-pub record Given (l fs : List ℕ) : Type 0 where
-  pub are : fs ≡ factors l
+-- in the order in which they are computed
+abbrev pub row-factors : List (Expr Cell)
+row-factors = call-sc-main-line ∷ call-sc-ext-line ∷ after-call-sc ∷ end-ext-line ∷ tape-ext-line ∷ tstore-main-line ∷ []

@@ -1,8 +1,9 @@
 // Products of a row's selectors and flags that several constraints of tape.rs and call_sc.rs (M, N) begin with,
 // computed once.
-ghost use mathlib.Core.Path.{_≡_};
+ghost use mathlib.Core.List.{[]};
 ghost use Rattle.table.specs.Rows.{Row};
-ghost use Rattle.cpu_factors.specs.Factors.{factors as factorsOf};
+ghost use Rattle.table.specs.Shared.{Shared};
+ghost use Rattle.cpu_factors.specs.Factors.{row-factors};
 use residue::below::add;
 use residue::below::sub;
 use residue::mul;
@@ -25,7 +26,7 @@ pub const NUM_FACTORS: usize = 6;
 
 pub fn factors(lv: &[u64]) -> [u64; NUM_FACTORS]
     requires { ⌜ Row (now lv) ⌝ }
-    ensures { λ r. ⌜ r ≡ factorsOf (now (lv .entry)) ⌝ }
+    ensures { λ r. ⌜ Shared row-factors (now (lv .entry)) [] r ⌝ }
 {
     let is_ext_line = lv[COL_IS_EXT_LINE];
     let is_main_line = sub(1, is_ext_line);

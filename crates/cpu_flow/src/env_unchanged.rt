@@ -1,12 +1,13 @@
 // The clock and the program counter of rows that stay in one environment.
 ghost use mathlib.Core.Path.{_≡_};
-ghost use mathlib.Core.List.{[]};
+ghost use mathlib.Core.List.{[], _∷_};
 ghost use Prim.Native.Nat.{_<_};
 ghost use Rattle.algebra.specs.Prime.{p};
 ghost use Rattle.algebra.specs.Expr.{eval};
 ghost use Rattle.residue.specs.Residues.{residues};
 ghost use Rattle.table.specs.Cells.{cells};
 ghost use Rattle.table.specs.Rows.{Row, Rows};
+ghost use Rattle.table.specs.Shared.{Shared};
 ghost use Rattle.table.specs.Entry.{values};
 ghost use Rattle.table.specs.CpuStark.{constraint-env-unchanged-clk, instruction-size, pc-next, constraint-env-unchanged-pc};
 ghost use Rattle.cpu_flow.specs.Clk.{clk-kept};
@@ -80,7 +81,7 @@ pub fn pc_next(lv: &[u64]) -> u64
 // 147 to 149 (J); 147 is 145 again
 pub fn constraint_env_unchanged_pc(lv: &[u64], nv: &[u64], clk_kept: u64) -> [u64; 3]
     requires rows { ⌜ Rows (now lv) (now nv) ⌝ }
-    requires clk { ⌜ «clk_kept» ≡ eval residues (cells [] (now lv) (now nv) 0 0) clk-kept ⌝ }
+    requires clk { ⌜ Shared (clk-kept ∷ []) (now lv) (now nv) («clk_kept» ∷ []) ⌝ }
     ensures { λ r. ⌜ r ≡ values residues (cells [] (now (lv .entry)) (now (nv .entry)) 0 0) constraint-env-unchanged-pc ⌝ }
 {
     let nv_is_main_line = sub(1, nv[COL_IS_EXT_LINE]);

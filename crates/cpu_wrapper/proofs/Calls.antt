@@ -11,8 +11,7 @@ use Rattle.algebra.specs.Prime.{p}
 use Rattle.algebra.specs.Expr.{eval}
 use Rattle.residue.specs.Residues.{residues}
 use Rattle.table.specs.Cells.{cells}
-use Rattle.table.specs.CpuStark.{lv-is-ext-inst, nv-is-ext-inst, lv-ext-length}
-use Rattle.cpu_wrapper.specs.Length.{Length}
+use Rattle.table.specs.CpuStark.{lv-is-ext-inst, nv-is-ext-inst}
 use Rattle.cpu_wrapper.proofs.wrapper.is_ext_inst.Kinds as inst
 use Rattle.cpu_wrapper.proofs.wrapper.is_ext_inst.Reads as inst-reads
 
@@ -30,9 +29,4 @@ module _ {Γ : Cx} {u : Mo Γ} {ar : ArgsT inst.ps (Γ .locals)} (k : Called ins
   pub is-ext-inst-below : k .result < p
   is-ext-inst-below = k .ensures .1
 
--- the length that a caller has computed
-pub sharedLengthOf : (m l n : List ℕ) (z f : ℕ) {x : ℕ} → Length l x → eval residues (cells m l n z f) lv-ext-length ≡ x
-unfolding eval lv-ext-length
-sharedLengthOf m l n z f h = sym (h .is)
-
-pub ruleset helpers = (isExtInstOf, nextIsExtInstOf, sharedLengthOf)
+pub ruleset helpers = (isExtInstOf, nextIsExtInstOf)

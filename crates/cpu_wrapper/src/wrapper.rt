@@ -1,15 +1,15 @@
 // CpuAdjacentRowWrapper::from_vars and CpuStark::constraint_wrapper_cols (A).
 ghost use mathlib.Core.Path.{_≡_};
-ghost use mathlib.Core.List.{[]};
+ghost use mathlib.Core.List.{[], _∷_};
 ghost use Prim.Native.Nat.{_<_};
 ghost use Rattle.algebra.specs.Prime.{p};
 ghost use Rattle.algebra.specs.Expr.{eval};
 ghost use Rattle.residue.specs.Residues.{residues};
 ghost use Rattle.table.specs.Rows.{Row, Rows};
+ghost use Rattle.table.specs.Shared.{Shared};
 ghost use Rattle.table.specs.Cells.{cells};
 ghost use Rattle.table.specs.Entry.{values};
 ghost use Rattle.table.specs.CpuStark.{lv-is-ext-inst, lv-ext-length, constraint-wrapper-cols};
-ghost use Rattle.cpu_wrapper.specs.Length.{Length};
 use residue::below::add;
 use residue::below::sub;
 use residue::mul;
@@ -48,7 +48,7 @@ pub fn lv_ext_length(lv: &[u64]) -> u64
 pub fn constraint_wrapper_cols(lv: &[u64], nv: &[u64], z_last: u64, ext_length: u64) -> [u64; 7]
     requires rows { ⌜ Rows (now lv) (now nv) ⌝ }
     requires weight { ⌜ «z_last» < p ⌝ }
-    requires length { ⌜ Length (now lv) «ext_length» ⌝ }
+    requires length { ⌜ Shared (lv-ext-length ∷ []) (now lv) [] («ext_length» ∷ []) ⌝ }
     ensures { λ r. ⌜ r ≡ values residues (cells [] (now (lv .entry)) (now (nv .entry)) «z_last» 0) constraint-wrapper-cols ⌝ }
 {
     let lv_is_padding = lv[COL_IS_PADDING];

@@ -7,18 +7,18 @@ use native.Mathlib.Omega.{arith}
 use lib.ListN.{replicate}
 use lib.Dec.{eqb}
 use borrow.Author.Tests.{lt-leb, ne-eqb}
-use Rattle.refusals.specs.Refusal.{canonical, member, distinct}
+use Rattle.refusals.specs.Refusal.{canonical, distinct}
 use Rattle.tally.specs.Tally.{nonzeros, firstFrom}
 use Rattle.run_pairs.specs.Run.{firstWeight}
 use Rattle.words.specs.Words.{words, littleEndian}
 use Rattle.rowdesk_lines.specs.Lines.{lineOf}
 use Rattle.rowdesk_steps.specs.Model.{rowBytes, pairLine, acceptOf, rowOf, endOf, feedOf, masksOf, startOf}
-use Rattle.worked.specs.Rows.{powers, zeros, after}
-use Rattle.worked.proofs.Worked.{bytesOfAll, zero-row-values}
+use Rattle.worked.specs.Rows.{powers, zeros, bytesOfAll, after}
+use Rattle.worked.proofs.Worked.{worked}
 
 -- the masks
 pub masks-taken : startOf (bytesOfAll powers) .state ≡ after 0
-unfolding startOf masksOf canonical member distinct words littleEndian
+unfolding startOf masksOf canonical distinct words littleEndian
 masks-taken = refl
 
 -- one more zero row
@@ -35,4 +35,4 @@ pub end-line : (n : ℕ) → 0 < n → feedOf (after n) [] .text ≡ lineOf (n -
 unfolding feedOf endOf pairLine nonzeros firstFrom
 end-line n h =
     let z : eqb n 0 ≡ false = ne-eqb n 0 (λ e. omega arith) in
-    rw z (ap (λ (vs : List ℕ). lineOf (n - 1) (nonzeros vs) (firstFrom 1 vs)) (zero-row-values (firstWeight (n - 1))))
+    rw z (ap (λ (vs : List ℕ). lineOf (n - 1) (nonzeros vs) (firstFrom 1 vs)) (worked .zero-row-values (firstWeight (n - 1))))

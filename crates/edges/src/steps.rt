@@ -16,19 +16,20 @@ fn after(n: usize) -> State
     ensures sound { λ r. ⌜ Sound r ⌝ }
 {
     let row = [0u8; ROW_BYTES];
-    let mut out = [0u8; LINE_BYTES];
+    let mut refusal = [0u8; LINE_BYTES];
     let first = rowdesk_steps::start(
         b"\x01\0\0\0\0\0\0\0\x02\0\0\0\0\0\0\0\x04\0\0\0\0\0\0\0\x08\0\0\0\0\0\0\0\x10\0\0\0\0\0\0\0\
         \x20\0\0\0\0\0\0\0\x40\0\0\0\0\0\0\0\x80\0\0\0\0\0\0\0\0\x01\0\0\0\0\0\0\0\x02\0\0\0\0\0\0\
         \0\x04\0\0\0\0\0\0\0\x08\0\0\0\0\0\0\0\x10\0\0\0\0\0\0\0\x20\0\0\0\0\0\0\0\x40\0\0\0\0\0\0\
         \0\x80\0\0\0\0\0\0\0\0\x01\0\0\0\0\0\0\0\x02\0\0\0\0\0\0\0\x04\0\0\0\0\0\0\0\x08\0\0\0\0\0\
         \0\0\x10\0\0\0\0\0\0\0\x20\0\0\0\0\0\0\0\x40\0\0\0\0\0\0\0\x80\0\0\0\0\0\0\0\0\x01\0\0\0\0",
-        &mut out,
+        &mut refusal,
     );
     let mut state = first.state;
     let mut i = 0;
     while i < n {
-        let step = rowdesk_steps::feed(state, &row, &mut out);
+        let mut out = [0u8; LINE_BYTES];
+        let step = rowdesk_steps::feed(state, &row, &mut out, 0);
         state = step.state;
         i += 1;
     }
@@ -41,11 +42,11 @@ fn last_line(words: &[u8], n: usize, bytes: &[u8], line: &[u8])
     requires line { ⌜ now line ≡ feedOf (stateAfter n) (now bytes) .text ⌝ }
 {
     let mut out = [0u8; LINE_BYTES];
-    let step = rowdesk_steps::feed(after(n), bytes, &mut out);
-    let length = step.length;
-    check::expect(check::same(&out[..length], line));
+    let step = rowdesk_steps::feed(after(n), bytes, &mut out, 0);
+    let next = step.next;
+    check::expect(check::same(&out[..next], line));
     io::write_all(STDOUT_FILENO, words);
-    io::write_all(STDOUT_FILENO, &out[..length]);
+    io::write_all(STDOUT_FILENO, &out[..next]);
 }
 
 // "0, 1, 65,536, 65,537 rows"   (document 01); "rowdesk prints only "0 2 104""

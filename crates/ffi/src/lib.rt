@@ -1,10 +1,9 @@
 // The entries for C and Rust: an answer is a number or a flat struct (crate flat), a slice a pointer and then a length.
 ghost use mathlib.Core.Path.{_≡_};
-ghost use lib.ListN.{length};
 ghost use Rattle.residue.specs.Residues.{addP, subP, mulP};
 ghost use Rattle.checked_residue.specs.Answer.{checked};
-ghost use Rattle.pair_checks.specs.PairValues.{pairValuesRefusal, pairValuesBuffer};
-ghost use Rattle.pair_fold_checks.specs.PairFold.{pairFoldRefusal, pairFoldAccumulators};
+ghost use Rattle.pair_checks.specs.PairValues.{PairValuesCall};
+ghost use Rattle.pair_fold_checks.specs.PairFold.{PairFoldCall};
 ghost use Rattle.judge.specs.Verdict.{verdictOf};
 ghost use Rattle.runs.specs.Report.{reportOf};
 ghost use Rattle.flat.specs.Flat.{flatResidue, flatVerdict, flatReport};
@@ -45,10 +44,9 @@ pub extern "C" fn felmugo_pair_values(
     lagrange_basis_first: u64,
     out: &mut [u64],
 ) -> u64
-    ensures number { λ r. ⌜ r ≡ pairValuesRefusal (now (masks .entry)) (now (lv .entry)) (now (nv .entry)) «z_last» «lagrange_basis_first» (length (now (out .entry))) ⌝ }
-    ensures buffer { λ _. ⌜ now (out .exit) ≡ pairValuesBuffer (now (masks .entry)) (now (lv .entry)) (now (nv .entry)) «z_last» «lagrange_basis_first» (now (out .entry)) ⌝ }
+    ensures { λ r. ⌜ PairValuesCall (now (masks .entry)) (now (lv .entry)) (now (nv .entry)) «z_last» «lagrange_basis_first» (now (out .entry)) r (now (out .exit)) ⌝ }
 {
-    pair::pair_values(masks, lv, nv, z_last, lagrange_basis_first, out)
+    adjacent_rows::adjacent_values(masks, lv, nv, z_last, lagrange_basis_first, out)
 }
 
 #[no_mangle]
@@ -61,8 +59,7 @@ pub extern "C" fn felmugo_pair_fold(
     alphas: &[u64],
     accs: &mut [u64],
 ) -> u64
-    ensures number { λ r. ⌜ r ≡ pairFoldRefusal (now (masks .entry)) (now (lv .entry)) (now (nv .entry)) «z_last» «lagrange_basis_first» (now (alphas .entry)) (now (accs .entry)) ⌝ }
-    ensures accumulators { λ _. ⌜ now (accs .exit) ≡ pairFoldAccumulators (now (masks .entry)) (now (lv .entry)) (now (nv .entry)) «z_last» «lagrange_basis_first» (now (alphas .entry)) (now (accs .entry)) ⌝ }
+    ensures { λ r. ⌜ PairFoldCall (now (masks .entry)) (now (lv .entry)) (now (nv .entry)) «z_last» «lagrange_basis_first» (now (alphas .entry)) (now (accs .entry)) r (now (accs .exit)) ⌝ }
 {
     pair_fold::pair_fold(masks, lv, nv, z_last, lagrange_basis_first, alphas, accs)
 }

@@ -1,27 +1,18 @@
 -- The refusal of a call of the judge, test by test, and its verdict.
-use mathlib.Core.Path.{_≡_, sym, ap, _∙_}
+use mathlib.Core.Path.{_≡_, sym, _∙_}
 use mathlib.Core.Bool.{Bool, true, false, cond, not, _&&_}
 use mathlib.Core.List.{List, [], _∷_, _++_}
-use Prim.Native.Nat.{ℕ, zero, suc}
+use Prim.Native.Nat.{ℕ}
 use lib.Dec.{eqb}
 use Rattle.refusals.specs.Refusal.{Condition, lowest, sizes, contents, flagsNotPlain}
-use Rattle.refusals.proofs.Laws.{Clear, clear, before, behind}
-use Rattle.checks.proofs.Laws.{rows-are, masks-are}
+use Rattle.refusals.proofs.Laws.{clear, before, behind, refused-unless}
+use Rattle.checks.proofs.Laws.{call-rows, call-masks}
 use Rattle.rulebook.specs.Plain.{pairPlain, pairKeeps}
 use Rattle.judge_rules.specs.Pair.{Pair}
 use Rattle.answers.specs.declared.Verdict.the-variants.{Keeps, Breaks, Refused}
-use Rattle.answers.specs.Verdict.{number, keepsOf, unless}
+use Rattle.answers.specs.Verdict.{number, keepsOf, judged}
 use Rattle.answers.proofs.Laws.{number-unless, keepsOf-unless}
 use Rattle.judge.specs.Verdict.{judgeRefusal, verdictOf}
-
--- of conditions none of which holds, neither the first ones nor the others do
-clear-front : (cs ds : List Condition) → Clear (cs ++ ds) → Clear cs
-clear-front [] ds k = tt
-clear-front (c ∷ cs) ds k = (k .0, clear-front cs ds (k .1))
-
-clear-back : (cs ds : List Condition) → Clear (cs ++ ds) → Clear ds
-clear-back [] ds k = k
-clear-back (c ∷ cs) ds k = clear-back cs ds (k .1)
 
 module _ (masks lv nv : List ℕ) where
   abbrev flags : List Condition
@@ -53,20 +44,13 @@ module _ (masks lv nv : List ℕ) where
   pub pair-is : judgeRefusal masks lv nv ≡ 0 → Pair masks lv nv
   unfolding judgeRefusal
   pair-is e =
-      let all : Clear (sizes masks lv nv ++ contents masks lv nv ++ flags) = clear (sizes masks lv nv ++ contents masks lv nv ++ flags) tt e in
-      let s : lowest (sizes masks lv nv) ≡ 0 = behind (sizes masks lv nv) [] (clear-front (sizes masks lv nv) (contents masks lv nv ++ flags) all) in
-      let rest : Clear (contents masks lv nv ++ flags) = clear-back (sizes masks lv nv) (contents masks lv nv ++ flags) all in
-      let k : lowest (contents masks lv nv) ≡ 0 = behind (contents masks lv nv) [] (clear-front (contents masks lv nv) flags rest) in
-      record { rows = rows-are masks lv nv s k; opcodes = masks-are masks lv nv s k }
+      let k = clear (sizes masks lv nv ++ contents masks lv nv ++ flags) tt e in
+      record { rows = call-rows masks lv nv [] flags k; opcodes = call-masks masks lv nv [] flags k }
 
   module _ (first last : Bool) where
     pub refused : (n : ℕ) → n ≡ judgeRefusal masks lv nv → (n ≡ 0 → ⊥) → Refused n ≡ verdictOf masks lv nv first last
     unfolding verdictOf
-    refused n e h = go (judgeRefusal masks lv nv) e
-      where
-        go : (m : ℕ) → n ≡ m → Refused n ≡ unless m (pairKeeps masks lv nv first last)
-        go zero d = absurd (h d)
-        go (suc m) d = ap Refused d
+    refused n = refused-unless Refused (judged (pairKeeps masks lv nv first last)) n (judgeRefusal masks lv nv)
 
     module _ (n : ℕ) (e : n ≡ judgeRefusal masks lv nv) (z : n ≡ 0) (b : Bool) (k : b ≡ pairKeeps masks lv nv first last) where
       pub keeps-said : b ≡ true → Keeps ≡ verdictOf masks lv nv first last

@@ -1,5 +1,4 @@
 pub mod Parts
 pub mod Words
-pub mod Selectors
 pub mod Joins
 pub mod Groups

@@ -11,7 +11,7 @@ ghost use Rattle.table.specs.Cells.{cells, lv as lvOf, nv as nvOf};
 ghost use Rattle.table.specs.Rows.{Row, Rows};
 ghost use Rattle.rulebook.specs.Rulebook.{word-part, operand-rules, rules-F, rules-G, rules-H};
 ghost use Rattle.judge_columns.specs.Group.{keepsRules};
-ghost use Rattle.judge_kinds.specs.Selected.{OfKind};
+ghost use Rattle.judge_kinds.specs.Selected.{Coded};
 ghost use Rattle.judge_instruction.specs.Part.{WordPart};
 use judge_columns::bits;
 use judge_columns::chosen;
@@ -33,7 +33,7 @@ const S_DST_SHIFT: u32 = 32;
 
 // F
 pub fn keeps_opcode_selector(masks: &[u64], lv: &[u64], k: u64) -> bool
-    requires { ⌜ OfKind (now masks) (now lv) k ⌝ }
+    requires { ⌜ Coded (now masks) (now lv) ⌝ }
     ensures { λ r. ⌜ r ≡ keepsRules rules-F (now (masks .entry)) (now (lv .entry)) [] k false false ⌝ }
 {
     // the 19 selectors are 0 or 1, exactly one is 1.

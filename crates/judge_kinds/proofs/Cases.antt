@@ -8,9 +8,10 @@ use native.Mathlib.Nat.{eq-or-lt-of-le}
 use native.Mathlib.Omega.{arith}
 use borrow.Author.Tests.{ne-eqb}
 use Rattle.algebra.specs.Expr.{eval}
+use Rattle.refusals.specs.Refusal.{member}
 use Rattle.residue.specs.Residues.{residues}
 use Rattle.table.specs.Cells.{Cell}
-use Rattle.rulebook.specs.Kind.{END, SLOAD, SSTORE, TLOAD, TSTORE, CALL-SC, member}
+use Rattle.rulebook.specs.Kind.{END, SLOAD, SSTORE, TLOAD, TSTORE, CALL-SC}
 use Rattle.rulebook.specs.Rulebook.{ext-kinds, ext-length}
 
 -- P of each of a, a + 1, .., n of them, shown one by one

@@ -10,10 +10,10 @@ use borrow.Table.Typed.{Mo}
 use borrow.Author.Called.{Called}
 use Rattle.algebra.specs.Prime.{p}
 use Rattle.algebra.specs.Expr.{eval}
+use Rattle.refusals.specs.Refusal.{member}
 use Rattle.residue.specs.Residues.{residues}
 use Rattle.table.specs.Cells.{Cell, cells}
 use Rattle.rulebook.specs.Rule.{fact, holds}
-use Rattle.rulebook.specs.Kind.{member}
 use Rattle.rulebook.specs.Words.{next-among}
 use Rattle.rulebook.specs.Rulebook.{ext-kinds, ext-length}
 use Rattle.judge_kinds.proofs.Unread.{length-same}

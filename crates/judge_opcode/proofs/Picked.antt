@@ -1,9 +1,7 @@
 -- What a call of `has_opcode` gives: whether the rule holds, over the masks and the row that it takes.
 use Prim.Native.Nat.{ℕ}
 use mathlib.Core.Path.{_≡_, sym}
-use mathlib.Core.Bool.{_&&_}
 use mathlib.Core.List.{List, []}
-use lib.Dec.{ltb}
 use denote.Ref.{now}
 use borrow.Fn.Args.{ArgsT, argsV}
 use borrow.Table.Row.{Cx}
@@ -20,5 +18,5 @@ module _ {Γ : Cx} {u : Mo Γ} where
       m ≡ now (argsV (c .lifetimes) opcode.ps (Γ .locals) ar u .0) →
       l ≡ now (argsV (c .lifetimes) opcode.ps (Γ .locals) ar u .1 .0) →
       k ≡ argsV (c .lifetimes) opcode.ps (Γ .locals) ar u .1 .1 .0 →
-      (ltb k 19 && holds (cells m l [] 0 0) (opcode-of k)) ≡ c .result
+      holds (cells m l [] 0 0) (opcode-of k) ≡ c .result
   hasOpcodeOf c m l k d e b = rw (d, e, b) (sym (c .ensures))

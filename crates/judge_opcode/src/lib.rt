@@ -1,9 +1,6 @@
 // The masks of an instruction kind.
 ghost use mathlib.Core.Path.{_≡_};
-ghost use mathlib.Core.Bool.{_&&_};
 ghost use mathlib.Core.List.{[]};
-ghost use lib.Dec.{ltb};
-ghost use Rattle.table.specs.Columns.{NUM-OP-SELECTOR};
 ghost use Rattle.table.specs.Cells.{cells};
 ghost use Rattle.rulebook.specs.Rule.{holds};
 ghost use Rattle.judge_kinds.specs.Selected.{Coded};
@@ -15,7 +12,7 @@ use table::masks as mask;
 // OPCODE is a mask of the kind: of one of its names, or its own.
 pub fn has_opcode(masks: &[u64], lv: &[u64], k: u64) -> bool
     requires { ⌜ Coded (now masks) (now lv) ⌝ }
-    ensures { λ r. ⌜ r ≡ (ltb k NUM-OP-SELECTOR && holds (cells (now (masks .entry)) (now (lv .entry)) [] 0 0) (opcode-of k)) ⌝ }
+    ensures { λ r. ⌜ r ≡ holds (cells (now (masks .entry)) (now (lv .entry)) [] 0 0) (opcode-of k) ⌝ }
 {
     let opcode = lv[COL_OPCODE];
     match k {

@@ -1,7 +1,7 @@
 -- The kind of the row that is judged, and what the groups ask.
 use Prim.Native.Nat.{ℕ}
 use mathlib.Core.Path.{_≡_, sym}
-use mathlib.Core.List.{List, []}
+use mathlib.Core.List.{List}
 use denote.Ref.{now}
 use borrow.Fn.Args.{ArgsT, argsV}
 use borrow.Table.Row.{Cx}
@@ -10,7 +10,7 @@ use borrow.Author.Called.{Called}
 use Rattle.table.specs.Cells.{cells}
 use Rattle.table.specs.Rows.{Row, Masks}
 use Rattle.rulebook.specs.Kind.{kindOf}
-use Rattle.judge_kinds.specs.Selected.{Coded, OfKind}
+use Rattle.judge_kinds.specs.Selected.{Coded}
 use Rattle.judge_kinds.proofs.selected.kind.Kinds as kind
 use Rattle.judge_kinds.proofs.selected.kind.Reads as kind-reads
 
@@ -24,10 +24,3 @@ module _ {Γ : Cx} {u : Mo Γ} (m l n : List ℕ) where
 -- what the groups ask
 pub coded : {m l : List ℕ} → Row l → Masks m → Coded m l
 coded r s = record { columns = r; opcodes = s }
-
-pub of-kind : {m l : List ℕ} {k : ℕ} → Coded m l → k ≡ kindOf (cells [] l [] 0 0) → OfKind m l k
-of-kind c e = record { coded = c; kind = e }
-
-pub kind-said : {Γ : Cx} {u : Mo Γ} {ar : ArgsT kind.ps (Γ .locals)} (c : Called kind.ps kind.r kind-reads.Learnt Γ ar u) →
-    c .result ≡ kindOf (cells [] (now (argsV (c .lifetimes) kind.ps (Γ .locals) ar u .0)) [] 0 0)
-kind-said c = c .ensures

@@ -80,9 +80,7 @@ pub fn keeps_body(lv: &[u64], nv: &[u64], k: u64, last: bool) -> bool
     let context = (end | (next_tx_idx == tx_idx))
         & (!(entry & end) | (next_tx_idx == add(tx_idx, 1)))
         & ((end | (k == CALL_SC)) | addresses_kept(lv, nv));
-    let pad = lv[COL_IS_PADDING];
-    let ext = lv[COL_IS_EXT_LINE];
-    let pad_is_ext = (pad == 0) & (ext == 0) | (pad == 1) & (ext == 1);
+    let pad_is_ext = lv[COL_IS_PADDING] == lv[COL_IS_EXT_LINE];
     let imm = (lv[COL_OP1_IMM] == 1) | ((k == MLOAD) | (k == MSTORE));
     // [t] with pad' 0: not END → TX_IDX kept; entry and END → it grows by 1; neither END nor CALL_SC →
     // both addresses kept.

@@ -1,7 +1,5 @@
 // The entry for the values of a pair of rows.
-ghost use mathlib.Core.Path.{_≡_};
-ghost use lib.ListN.{length};
-ghost use Rattle.pair_checks.specs.PairValues.{pairValuesRefusal, pairValuesBuffer};
+ghost use Rattle.pair_checks.specs.PairValues.{PairValuesCall};
 use pair_checks::refusal;
 
 // Writes the 226 values of a pair of rows to the first places of `out`, each with its weight applied. The
@@ -14,8 +12,7 @@ pub fn pair_values(
     lagrange_basis_first: u64,
     out: &mut [u64],
 ) -> u64
-    ensures number { λ r. ⌜ r ≡ pairValuesRefusal (now (masks .entry)) (now (lv .entry)) (now (nv .entry)) «z_last» «lagrange_basis_first» (length (now (out .entry))) ⌝ }
-    ensures buffer { λ _. ⌜ now (out .exit) ≡ pairValuesBuffer (now (masks .entry)) (now (lv .entry)) (now (nv .entry)) «z_last» «lagrange_basis_first» (now (out .entry)) ⌝ }
+    ensures { λ r. ⌜ PairValuesCall (now (masks .entry)) (now (lv .entry)) (now (nv .entry)) «z_last» «lagrange_basis_first» (now (out .entry)) r (now (out .exit)) ⌝ }
 {
     let number = refusal(masks, lv, nv, z_last, lagrange_basis_first, out.len());
     if number != 0 {

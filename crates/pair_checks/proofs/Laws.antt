@@ -1,9 +1,10 @@
 -- The refusal of a call for the values of a pair, test by test.
 use mathlib.Core.Path.{_≡_, sym, ap, _∙_}
-use mathlib.Core.List.{List, [], _∷_, _++_}
+use mathlib.Core.List.{List, [], _∷_, _++_, append-nil}
 use Prim.Native.Nat.{ℕ, _<_, _≤_}
 use native.Mathlib.Nat.{zero-add}
-use lib.ListN.{length, getD, drop}
+use native.Mathlib.Omega.{arith}
+use lib.ListN.{length, getD, drop, drop-of-length-le}
 use borrow.Author.Tests.{lt-ltb, le-ltb, ltb-false, not-false, eq-eqb, ne-eqb}
 use Rattle.algebra.specs.Prime.{p}
 use Rattle.refusals.specs.Refusal.{Condition, lowest, sizes, contents, valueBuffer, notBelowP, canonical}
@@ -12,7 +13,7 @@ use Rattle.table.specs.Rows.{Rows, Masks}
 use Rattle.table.specs.Cells.{cells}
 use Rattle.table.specs.Table.{table, pairValues}
 use Rattle.table.proofs.Numbers.{table-length}
-use Rattle.checks.proofs.Laws.{rows-are, masks-are}
+use Rattle.checks.proofs.Laws.{call-rows, call-masks}
 use Rattle.parts.specs.Parts.{write}
 use Rattle.parts.proofs.Written.{length-values}
 use Rattle.pair_checks.specs.PairValues.{pairValuesRefusal, pairValuesBuffer}
@@ -58,27 +59,23 @@ module _ (masks lv nv : List ℕ) (z f room : ℕ) where
 
 -- what is known of a call that is not turned back
 module _ (masks lv nv : List ℕ) (z f room : ℕ) (e : pairValuesRefusal masks lv nv z f room ≡ 0) where
-  clears : Clear (sizes masks lv nv ++ (valueBuffer room ∷ []) ++ contents masks lv nv ++ (notBelowP (z ∷ f ∷ []) ∷ []))
+  abbrev rooms : List Condition
+  rooms = valueBuffer room ∷ []
+
+  abbrev numbers : List Condition
+  numbers = notBelowP (z ∷ f ∷ []) ∷ []
+
+  clears : Clear (sizes masks lv nv ++ rooms ++ contents masks lv nv ++ numbers)
   unfolding pairValuesRefusal
-  clears = clear (sizes masks lv nv ++ (valueBuffer room ∷ []) ++ contents masks lv nv ++ (notBelowP (z ∷ f ∷ []) ∷ [])) tt e
-
-  sizes-clear : lowest (sizes masks lv nv) ≡ 0
-  sizes-clear =
-      let k = clears in
-      behind (sizes masks lv nv) [] (k .0, (k .1 .0, (k .1 .1 .0, tt)))
-
-  contents-clear : lowest (contents masks lv nv) ≡ 0
-  contents-clear =
-      let k = clears .1 .1 .1 .1 in
-      behind (contents masks lv nv) [] (k .0, (k .1 .0, (k .1 .1 .0, tt)))
+  clears = clear (sizes masks lv nv ++ rooms ++ contents masks lv nv ++ numbers) tt e
 
   weight : (i : ℕ) → getD (z ∷ f ∷ []) i 0 < p
   weight = canonical-below (z ∷ f ∷ []) (not-false (canonical (z ∷ f ∷ [])) (clears .1 .1 .1 .1 .1 .1 .1 .0))
 
   pub core-asks : Rows lv nv × (Masks masks × ((z < p) × ((f < p) × (226 ≤ room))))
   core-asks = (
-    rows-are masks lv nv sizes-clear contents-clear,
-    (masks-are masks lv nv sizes-clear contents-clear, (weight 0, (weight 1, ltb-false _ _ (clears .1 .1 .1 .0)))),
+    call-rows masks lv nv rooms numbers clears,
+    (call-masks masks lv nv rooms numbers clears, (weight 0, (weight 1, ltb-false _ _ (clears .1 .1 .1 .0)))),
   )
 
 -- the buffer of a call that is turned back, and of one that is not
@@ -92,3 +89,10 @@ module _ (masks lv nv : List ℕ) (z f : ℕ) (out : List ℕ) where
   buffer-written h =
       simp (eq-eqb _ _ h)
       (ap (λ (n : ℕ). pairValues masks lv nv z f ++ drop n out) (zero-add (length (pairValues masks lv nv z f)) ∙ length-values (cells masks lv nv z f) table ∙ table-length))
+
+  -- of 226 places
+  pub values-written : length out ≡ 226 → pairValuesRefusal masks lv nv z f (length out) ≡ 0 → pairValuesBuffer masks lv nv z f out ≡ pairValues masks lv nv z f
+  unfolding pairValuesBuffer
+  values-written l h =
+      simp (eq-eqb _ _ h)
+      (ap (λ (x : List ℕ). pairValues masks lv nv z f ++ x) (drop-of-length-le out {i = 226} (omega arith)) ∙ append-nil _)

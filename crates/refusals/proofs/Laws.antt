@@ -4,14 +4,14 @@ use mathlib.Core.Bool.{Bool, true, false, cond, not, _&&_, _||_, and-assoc}
 use mathlib.Core.List.{List, [], _∷_, _++_}
 use Prim.Native.Nat.{ℕ, zero, suc, _+_, _-_, _<_, _≤_}
 use native.Mathlib.Numerals.{add-one}
-use native.Mathlib.Nat.{le-refl}
 use native.Mathlib.Omega.{arith}
-use lib.ListN.{length, getD, take, drop, drop-of-length-le, length-drop, take-append-drop}
-use lib.Seq.{drop-cons, take-all}
+use lib.ListN.{length, getD, take, drop, drop-of-length-le, take-append-drop}
+use lib.Seq.{drop-cons}
 use lib.Dec.{T, eqb, ltb, ltb→lt, lit<}
-use borrow.Author.Tests.{eqb-true, not-false, ltb-true}
+use borrow.Author.Tests.{eqb-true, eqb-false, eq-eqb, ne-eqb, not-false, ltb-true}
 use Rattle.algebra.specs.Prime.{p}
-use Rattle.refusals.specs.Refusal.{Condition, lowest, canonical, member, distinct}
+use Rattle.algebra.proofs.Slices.{to-end}
+use Rattle.refusals.specs.Refusal.{Condition, lowest, unless, canonical, member, distinct}
 
 -- none of the conditions holds
 abbrev pub Clear : List Condition → Type 0
@@ -39,6 +39,15 @@ clear (c ∷ cs) t e =
     let k = clear-first (c .holds) (c .number) (lowest cs) (s .0) e in
     (k .0, clear cs (s .1) (k .1))
 
+-- of conditions none of which holds, neither the first ones nor the others do
+pub clear-front : (cs ds : List Condition) → Clear (cs ++ ds) → Clear cs
+clear-front [] ds k = tt
+clear-front (c ∷ cs) ds k = (k .0, clear-front cs ds (k .1))
+
+pub clear-back : (cs ds : List Condition) → Clear (cs ++ ds) → Clear ds
+clear-back [] ds k = k
+clear-back (c ∷ cs) ds k = clear-back cs ds (k .1)
+
 -- conditions behind others: they count where none of those holds
 pub behind : (cs ds : List Condition) → Clear cs → lowest (cs ++ ds) ≡ lowest ds
 behind [] ds k = refl
@@ -52,6 +61,20 @@ before-first false n k m r e f = f e
 pub before : (cs ds : List Condition) (n : ℕ) → n ≡ lowest cs → (n ≡ 0 → ⊥) → n ≡ lowest (cs ++ ds)
 before [] ds n e h = absurd (h e)
 before (c ∷ cs) ds n e h = before-first (c .holds) n (c .number) (lowest cs) (lowest (cs ++ ds)) e (λ k. before cs ds n k h)
+
+-- a call that is turned back with n, one that is not, and what holds in both cases
+module _ {A : Type 0} (refused : ℕ → A) (answer : A) where
+  pub refused-unless : (n m : ℕ) → n ≡ m → (n ≡ 0 → ⊥) → refused n ≡ unless m refused answer
+  refused-unless n zero e h = absurd (h e)
+  refused-unless n (suc m) e h = ap refused e
+
+  pub given-unless : (m : ℕ) → m ≡ 0 → answer ≡ unless m refused answer
+  given-unless zero e = refl
+  given-unless (suc m) e = absurd (omega arith)
+
+  pub by-unless : (P : A → Type 0) (n : ℕ) → (n ≡ 0 → P answer) → P (refused n) → P (unless n refused answer)
+  by-unless P zero a r = a refl
+  by-unless P (suc n) a r = r
 
 -- what a length is, where its condition does not hold
 pub length-is : (n k : ℕ) → not (eqb n k) ≡ false → n ≡ k
@@ -87,6 +110,13 @@ canonical-below [] e i = lit< tt
 canonical-below (x ∷ xs) e zero = ltb-true _ _ (both-true (ltb x p) (canonical xs) e .0)
 canonical-below (x ∷ xs) e (suc i) = canonical-below xs (both-true (ltb x p) (canonical xs) e .1) i
 
+eqb-comm : (a b : ℕ) → eqb a b ≡ eqb b a
+eqb-comm a b = go (eqb a b) refl
+  where
+    go : (t : Bool) → eqb a b ≡ t → t ≡ eqb b a
+    go true e = sym (eq-eqb b a (sym (eqb-true a b e)))
+    go false e = sym (ne-eqb b a (λ q. eqb-false a b e (sym q)))
+
 -- a test over a list that goes by its elements: at the place i, and at the end
 module _ (a : List ℕ) (i : ℕ) where
   pub front : i < length a → drop i a ≡ getD a i 0 ∷ drop (i + 1) a
@@ -101,11 +131,9 @@ module _ (a : List ℕ) (i : ℕ) where
   canonical-end h = ap canonical (drop-of-length-le a h)
 
   pub member-at : (x : ℕ) → i < length a → member x (drop i a) ≡ (eqb (getD a i 0) x || member x (drop (i + 1) a))
-  unfolding member
-  member-at x h = ap (member x) (front h)
+  member-at x h = ap (member x) (front h) ∙ ap (λ (t : Bool). t || member x (drop (i + 1) a)) (eqb-comm x (getD a i 0))
 
   pub member-end : (x : ℕ) → length a ≤ i → member x (drop i a) ≡ false
-  unfolding member
   member-end x h = ap (member x) (drop-of-length-le a h)
 
   distinct-at : i < length a → distinct (drop i a) ≡ (not (member (getD a i 0) (drop (i + 1) a)) && distinct (drop (i + 1) a))
@@ -120,7 +148,4 @@ module _ (a : List ℕ) (i : ℕ) where
   pub distinct-turn : i < length a → (b : Bool) → member (getD a i 0) (take (length a - (i + 1)) (drop (i + 1) a)) ≡ b
       → distinct (drop i a) ≡ (not b && distinct (drop (i + 1) a))
   distinct-turn h b e =
-      distinct-at h ∙ ap (λ (t : Bool). not t && distinct (drop (i + 1) a)) (ap (member (getD a i 0)) (sym rest) ∙ e)
-    where
-      rest : take (length a - (i + 1)) (drop (i + 1) a) ≡ drop (i + 1) a
-      rest = take-all (length a - (i + 1)) (drop (i + 1) a) (rw length-drop (le-refl (length a - (i + 1))))
+      distinct-at h ∙ ap (λ (t : Bool). not t && distinct (drop (i + 1) a)) (ap (member (getD a i 0)) (sym (to-end (i + 1) a)) ∙ e)

@@ -1,7 +1,7 @@
 -- "Where a call is turned back" (document 01): one definition for each line of the table.
 use mathlib.Core.Bool.{Bool, true, false, cond, not, _&&_, _||_}
 use mathlib.Core.List.{List, [], _∷_}
-use Prim.Native.Nat.{ℕ, _/_, _%_}
+use Prim.Native.Nat.{ℕ, zero, suc, _/_, _%_}
 use lib.ListN.{length, take}
 use lib.Dec.{eqb, ltb}
 use Rattle.algebra.specs.Prime.{p}
@@ -17,15 +17,20 @@ abbrev pub lowest : List Condition → ℕ
 lowest [] = 0
 lowest (c ∷ cs) = cond (c .holds) (c .number) (lowest cs)
 
+-- what a call answers: what is made of the number with which it is turned back, and where none is (0) the answer
+abbrev pub unless : {A : Type 0} → ℕ → (ℕ → A) → A → A
+unless zero refused answer = answer
+unless (suc n) refused answer = refused (suc n)
+
 -- every number is canonical
 unfoldable pub canonical : List ℕ → Bool
 canonical [] = true
 canonical (x ∷ xs) = ltb x p && canonical xs
 
 -- x is among the numbers
-unfoldable pub member : ℕ → List ℕ → Bool
+abbrev pub member : ℕ → List ℕ → Bool
 member x [] = false
-member x (y ∷ ys) = eqb y x || member x ys
+member x (y ∷ ys) = eqb x y || member x ys
 
 -- no two numbers are equal
 unfoldable pub distinct : List ℕ → Bool

@@ -6,7 +6,6 @@ ghost use mathlib.Core.Bool.{true};
 ghost use lib.ListN.{length};
 ghost use Rattle.replay.specs.Record.{Agrees};
 use libc::STDIN_FILENO;
-use libc::STDOUT_FILENO;
 use table::NUM_VALUES;
 use table::columns::NUM_CPU_COLS;
 use table::masks::NUM_MASKS;
@@ -93,14 +92,8 @@ fn replay_record() -> Outcome {
     }
 }
 
-// Prints "P pairs, D differ", and what is wrong with the sample, if anything is.
 fn print(pairs: u64, differ: u64, fault: &[u8]) {
-    io::print_decimal(STDOUT_FILENO, pairs);
-    io::write_all(STDOUT_FILENO, b" pairs, ");
-    io::print_decimal(STDOUT_FILENO, differ);
-    io::write_all(STDOUT_FILENO, b" differ");
-    io::write_all(STDOUT_FILENO, fault);
-    io::write_all(STDOUT_FILENO, b"\n");
+    compared_line::print(pairs, b"pairs", differ, fault);
 }
 
 fn main() {

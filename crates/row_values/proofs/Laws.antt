@@ -1,21 +1,16 @@
 -- A value of one row: the row is turned back, or is as the core asks.
-use mathlib.Core.Path.{_≡_, refl, sym, ap, _∙_}
+use mathlib.Core.Path.{_≡_, sym, ap, _∙_}
 use mathlib.Core.List.{List, []}
-use Prim.Native.Nat.{ℕ, zero, suc}
+use Prim.Native.Nat.{ℕ}
 use Rattle.algebra.specs.Expr.{Expr, eval}
 use Rattle.refusals.specs.Refusal.{lowest}
-use Rattle.refusals.proofs.Laws.{clear, length-is}
+use Rattle.refusals.proofs.Laws.{clear, length-is, refused-unless, given-unless}
 use Rattle.residue.specs.Residues.{residues}
-use Rattle.checked_residue.specs.Answer.{unless}
 use Rattle.checked_residue.specs.declared.Residue.the-variants.{Value, Refused}
 use Rattle.table.specs.Cells.{Cell, cells}
 use Rattle.table.specs.Rows.{Row}
 use Rattle.checks.proofs.Laws.{accepted-row}
 use Rattle.row_values.specs.RowValue.{rowConditions, rowValue}
-
-refused-unless : (n v : ℕ) → (n ≡ 0 → ⊥) → Refused n ≡ unless n v
-refused-unless zero v h = absurd (h refl)
-refused-unless (suc n) v h = refl
 
 module _ (row : List ℕ) (n : ℕ) (i : n ≡ lowest (rowConditions row)) where
   pub row-is : n ≡ 0 → Row row
@@ -26,8 +21,8 @@ module _ (row : List ℕ) (n : ℕ) (i : n ≡ lowest (rowConditions row)) where
   module _ (e : Expr Cell) where
     pub row-refused : (n ≡ 0 → ⊥) → Refused n ≡ rowValue e row
     unfolding rowValue
-    row-refused h = refused-unless n _ h ∙ ap (λ (k : ℕ). unless k (eval residues (cells [] row [] 0 0) e)) i
+    row-refused = refused-unless Refused _ n _ i
 
     pub row-value : n ≡ 0 → (v : ℕ) → v ≡ eval residues (cells [] row [] 0 0) e → Value v ≡ rowValue e row
     unfolding rowValue
-    row-value z v g = ap Value g ∙ ap (λ (k : ℕ). unless k (eval residues (cells [] row [] 0 0) e)) (sym z ∙ i)
+    row-value z v g = ap Value g ∙ given-unless Refused _ _ (sym i ∙ z)

@@ -10,6 +10,7 @@ use lib.ListN.{length, getD, take, drop, length-drop, drop-of-length-le}
 use lib.Seq.{take-suc, take-all, drop-drop, take-length}
 use lib.Dec.{ltb}
 use Rattle.io.specs.Counts.{Counts}
+use Rattle.text.proofs.Puts.{put-text, put-counts}
 use Rattle.rowdesk_steps.specs.Model.{startOf, feedOf, rowsOf, outputOf, Stepped, Gives}
 use Rattle.rowdesk_steps.specs.Sound.{Sound, Onward}
 use Rattle.rowdesk_steps.specs.declared.State.{State}
@@ -68,11 +69,11 @@ pub record Printed (input expected : List ℕ) (at printed : ℕ) (s : State) : 
   pub is : outputOf input ≡ take printed expected ++ rowsOf s (drop at input)
 
 -- a step's text that stands behind what was printed
-text-stands : (t : Stepped) (r : Step) (out expected : List ℕ) (printed : ℕ) → Gives t r out → Stands (take (r .length) out) expected printed
-    → (printed + r .length ≤ length expected) × (take (printed + r .length) expected ≡ take printed expected ++ t .text)
-text-stands t r out expected printed g s =
-    let n : length (take (r .length) out) ≡ r .length = sym (g .counts .1) in
-    (rw n at (s .within), ap (λ (k : ℕ). take (printed + k) expected) (sym n) ∙ s .is ∙ ap (λ (x : List ℕ). take printed expected ++ x) (g .text-is))
+text-stands : (t : Stepped) (r : Step) (old out expected : List ℕ) (printed : ℕ) → Gives t r old out 0 → Stands (take (r .next) out) expected printed
+    → (printed + r .next ≤ length expected) × (take (printed + r .next) expected ≡ take printed expected ++ t .text)
+text-stands t r old out expected printed g s =
+    let n : length (take (r .next) out) ≡ r .next = sym (put-counts (omega arith) (g .put) .1) in
+    (rw n at (s .within), ap (λ (k : ℕ). take (printed + k) expected) (sym n) ∙ s .is ∙ ap (λ (x : List ℕ). take printed expected ++ x) (put-text (g .put)))
 
 module _ (input expected : List ℕ) (at end : ℕ) (h : at ≤ length input) where
   read-is : (size : ℕ) → end ≡ partEnd at size (length input) → take (end - at) (drop at input) ≡ take size (drop at input)
@@ -81,12 +82,12 @@ module _ (input expected : List ℕ) (at end : ℕ) (h : at ≤ length input) wh
   rest-is : (size : ℕ) → end ≡ partEnd at size (length input) → drop end input ≡ drop size (drop at input)
   rest-is size e = ap (λ (k : ℕ). drop k input) e ∙ left-is input at size h
 
-  pub printed-row : (printed : ℕ) (s : State) (r : Step) (out : List ℕ) → Printed input expected at printed s → s .running ≡ true
+  pub printed-row : (printed : ℕ) (s : State) (r : Step) (old out : List ℕ) → Printed input expected at printed s → s .running ≡ true
       → end ≡ partEnd at 752 (length input) → end ≤ length input
-      → Gives (feedOf s (take (end - at) (drop at input))) r out → Onward s (r .state) → Stands (take (r .length) out) expected printed
-      → Printed input expected end (printed + r .length) (r .state)
-  printed-row printed s r out k run e w g o st =
-      let t = text-stands _ r out expected printed g st in
+      → Gives (feedOf s (take (end - at) (drop at input))) r old out 0 → Onward 1 s (r .state) → Stands (take (r .next) out) expected printed
+      → Printed input expected end (printed + r .next) (r .state)
+  printed-row printed s r old out k run e w g o st =
+      let t = text-stands _ r old out expected printed g st in
       let f : feedOf s (take (end - at) (drop at input)) ≡ feedOf s (take 752 (drop at input)) = ap (feedOf s) (read-is 752 e) in
       record {
         sound = o .sound;
@@ -99,16 +100,16 @@ module _ (input expected : List ℕ) (at end : ℕ) (h : at ≤ length input) wh
             ∙ ap₂ (λ (x : List ℕ) (y : State). x ++ rowsOf y (drop 752 (drop at input)))
             (ap (λ (y : Stepped). take printed expected ++ y .text) (sym f) ∙ sym (t .1))
             (ap (λ (y : Stepped). y .state) (sym f) ∙ sym (g .state-is))
-            ∙ ap (λ (x : List ℕ). take (printed + r .length) expected ++ rowsOf (r .state) x) (sym (rest-is 752 e));
+            ∙ ap (λ (x : List ℕ). take (printed + r .next) expected ++ rowsOf (r .state) x) (sym (rest-is 752 e));
       }
 
-pub printed-start : (input expected : List ℕ) (at : ℕ) (r : Step) (out : List ℕ) → at ≡ partEnd 0 200 (length input) → at ≤ length input
-    → Gives (startOf (take (at - 0) (drop 0 input))) r out → Sound (r .state) → Stands (take (r .length) out) expected 0
-    → Printed input expected at (r .length) (r .state)
+pub printed-start : (input expected : List ℕ) (at : ℕ) (r : Step) (old out : List ℕ) → at ≡ partEnd 0 200 (length input) → at ≤ length input
+    → Gives (startOf (take (at - 0) (drop 0 input))) r old out 0 → Sound (r .state) → Stands (take (r .next) out) expected 0
+    → Printed input expected at (r .next) (r .state)
 unfolding outputOf
-printed-start input expected at r out e w g s st =
-    let t = text-stands _ r out expected 0 g st in
-    let z : 0 + r .length ≡ r .length = omega arith in
+printed-start input expected at r old out e w g s st =
+    let t = text-stands _ r old out expected 0 g st in
+    let z : 0 + r .next ≡ r .next = omega arith in
     let f : startOf (take (at - 0) (drop 0 input)) ≡ startOf (take 200 input) = ap startOf (read-is input expected 0 at (omega arith) 200 e) in
     record {
       sound = s;
@@ -118,7 +119,7 @@ printed-start input expected at r out e w g s st =
           ap₂ (λ (x : List ℕ) (y : State). x ++ rowsOf y (drop 200 input))
           (ap (λ (y : Stepped). y .text) (sym f) ∙ sym (t .1) ∙ ap (λ (k : ℕ). take k expected) z)
           (ap (λ (y : Stepped). y .state) (sym f) ∙ sym (g .state-is))
-          ∙ ap (λ (x : List ℕ). take (r .length) expected ++ rowsOf (r .state) x) (sym (rest-is input expected 0 at (omega arith) 200 e));
+          ∙ ap (λ (x : List ℕ). take (r .next) expected ++ rowsOf (r .state) x) (sym (rest-is input expected 0 at (omega arith) 200 e));
     }
 
 pub printed-all : (input expected : List ℕ) (at printed : ℕ) (s : State) → Printed input expected at printed s → s .running ≡ false

@@ -7,7 +7,6 @@ ghost use lib.ListN.{length};
 ghost use Rattle.rowdesk_steps.specs.Model.{outputOf};
 ghost use Rattle.rowdesk_cases.specs.Case.{Fits, Stands, partEnd};
 use libc::STDIN_FILENO;
-use libc::STDOUT_FILENO;
 use rowdesk_steps::LINE_BYTES;
 use rowdesk_steps::MASK_BYTES;
 use rowdesk_steps::ROW_BYTES;
@@ -65,22 +64,23 @@ fn part_end(at: usize, size: usize, all: usize) -> usize
 fn agrees(input: &[u8], expected: &[u8]) -> bool
     ensures { λ r. ⌜ (r ≡ true → outputOf (now (input .entry)) ≡ now (expected .entry)) ⌝ }
 {
-    let mut text = [0u8; LINE_BYTES];
+    let mut refusal = [0u8; LINE_BYTES];
     let mut at = part_end(0, MASK_BYTES, input.len());
-    let first = rowdesk_steps::start(&input[0..at], &mut text);
+    let first = rowdesk_steps::start(&input[0..at], &mut refusal);
     let mut state = first.state;
-    let mut printed = first.length;
-    if !stands(&text[..printed], expected, 0) {
+    let mut printed = first.next;
+    if !stands(&refusal[..printed], expected, 0) {
         return false;
     }
     while state.running {
         let end = part_end(at, ROW_BYTES, input.len());
-        let step = rowdesk_steps::feed(state, &input[at..end], &mut text);
-        let length = step.length;
-        if !stands(&text[..length], expected, printed) {
+        let mut text = [0u8; LINE_BYTES];
+        let step = rowdesk_steps::feed(state, &input[at..end], &mut text, 0);
+        let next = step.next;
+        if !stands(&text[..next], expected, printed) {
             return false;
         }
-        printed += length;
+        printed += next;
         at = end;
         state = step.state;
     }
@@ -135,14 +135,8 @@ fn replay_case() -> Outcome {
     }
 }
 
-// Prints "N cases, D differ", and what is wrong with the file, if anything is.
 fn print(cases: u64, differ: u64, fault: &[u8]) {
-    io::print_decimal(STDOUT_FILENO, cases);
-    io::write_all(STDOUT_FILENO, b" cases, ");
-    io::print_decimal(STDOUT_FILENO, differ);
-    io::write_all(STDOUT_FILENO, b" differ");
-    io::write_all(STDOUT_FILENO, fault);
-    io::write_all(STDOUT_FILENO, b"\n");
+    compared_line::print(cases, b"cases", differ, fault);
 }
 
 fn main() {

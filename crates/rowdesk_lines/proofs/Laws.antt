@@ -1,15 +1,18 @@
--- How a line is written, text behind text.
-use mathlib.Core.Path.{_≡_, sym, ap, _∙_}
-use mathlib.Core.List.{List, _++_}
+-- No line is longer than the room for one.
 use Prim.Native.Nat.{ℕ, _≤_}
-use lib.ListN.{length, take}
-use lib.Seq.{length-take-le}
-use Rattle.io.specs.Counts.{Counts}
-use Rattle.text.specs.Put.{Put}
+use native.Mathlib.Omega.{arith}
+use lib.ListN.{length, length-append}
+use Rattle.text.proofs.Digits.{decimal-short}
+use Rattle.rowdesk_lines.specs.Lines.{lineOf, refusedOf}
 
--- one more text behind those that stand there
-pub then : {old new : List ℕ} {at next : ℕ} {text : List ℕ} (x : List ℕ) → take at old ≡ x → Put old new at next text → take next new ≡ x ++ text
-then {text = t} x e p = p .is ∙ ap (λ (l : List ℕ). l ++ t) e
+pub line-short : (index count lowest : ℕ) → length (lineOf index count lowest) ≤ 64
+unfolding lineOf
+line-short index count lowest =
+    let i = decimal-short index in
+    let c = decimal-short count in
+    let l = decimal-short lowest in
+    simp length-append (omega arith)
 
-pub counts : (n : ℕ) (xs : List ℕ) → n ≤ length xs → Counts n xs
-counts n xs h = (h, sym (length-take-le n xs h))
+pub refused-short : (number : ℕ) → length (refusedOf number) ≤ 64
+unfolding refusedOf
+refused-short number = let n = decimal-short number in simp length-append (omega arith)

@@ -4,6 +4,7 @@ use mathlib.Core.Bool.{Bool, true, false}
 use mathlib.Core.List.{List, [], _∷_, _++_}
 use Prim.Native.Nat.{ℕ, zero, suc, _-_, _<_}
 use native.Mathlib.Omega.{arith}
+use borrow.Author.Tests.{ne-eqb}
 use lib.ListN.{length, take, drop, length-drop}
 use lib.Dec.{eqb}
 use Rattle.rowdesk_steps.specs.Model.{Stepped, feedOf, endOf, stepsOf, rowsOf}
@@ -16,15 +17,20 @@ unfolding stepsOf
 ended-steps zero s input e = refl
 ended-steps (suc k) s input e = rw e
 
--- the end of the input ends it
-feed-none : (s : State) → feedOf s [] .state .running ≡ false
+-- the end of the input ends it, and so does a part of a row
+abbrev Ends : Stepped → Type 0
+Ends t = t .state .running ≡ false
+
+pub short-ends : (s : State) (bytes : List ℕ) → length bytes < 752 → feedOf s bytes .state .running ≡ false
 unfolding feedOf endOf
-feed-none s = by-cases (λ (t : Stepped). t .state .running ≡ false) (eqb (s .rows) 0) (λ _. refl) (λ _. refl)
+short-ends s bytes h =
+    let n : eqb (length bytes) 752 ≡ false = ne-eqb (length bytes) 752 (λ e. omega arith) in
+    rw n (by-cases Ends (eqb (length bytes) 0) (λ _. by-cases Ends (eqb (s .rows) 0) (λ _. refl) (λ _. refl)) (λ _. refl))
 
 -- with more steps than bytes, their number does not matter
 module _ (s : State) where
   after-none : (k m : ℕ) → stepsOf k (feedOf s [] .state) [] ≡ stepsOf m (feedOf s [] .state) []
-  after-none k m = ended-steps k _ [] (feed-none s) ∙ sym (ended-steps m _ [] (feed-none s))
+  after-none k m = ended-steps k _ [] (short-ends s [] (omega arith)) ∙ sym (ended-steps m _ [] (short-ends s [] (omega arith)))
 
 enough : (k m : ℕ) (s : State) (input : List ℕ) → length input < k → length input < m → stepsOf k s input ≡ stepsOf m s input
 unfolding stepsOf

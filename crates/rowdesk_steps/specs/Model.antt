@@ -5,13 +5,13 @@ use mathlib.Core.List.{List, [], _++_}
 use Prim.Native.Nat.{ℕ, zero, suc, _+_, _-_, _*_}
 use lib.ListN.{length, take, drop, replicate}
 use lib.Dec.{eqb, leb}
-use Rattle.io.specs.Counts.{Counts}
 use Rattle.refusals.specs.Refusal.{maskContents, rowContents}
 use Rattle.table.specs.Columns.{NUM-CPU-COLS}
 use Rattle.table.specs.Masks.{NUM-MASKS}
 use Rattle.table.specs.Table.{pairValues}
 use Rattle.run_pairs.specs.Run.{firstWeight}
 use Rattle.words.specs.Words.{words}
+use Rattle.text.specs.Put.{Put}
 use Rattle.rowdesk_lines.specs.Lines.{refusedOf}
 use Rattle.rowdesk_steps.specs.PairLines.{lineOfPair}
 use Rattle.rowdesk_steps.specs.declared.State.{State}
@@ -109,11 +109,10 @@ rowsOf s input = stepsOf (suc (length input)) s input
 unfoldable pub outputOf : List ℕ → List ℕ
 outputOf input = startOf (take maskBytes input) .text ++ rowsOf (startOf (take maskBytes input) .state) (drop maskBytes input)
 
--- a step's answer is one step of the model: the state, and the text as the first bytes of the buffer
-pub record Gives (s : Stepped) (r : Step) (out : List ℕ) : Type 0 where
+-- a step's answer is one step of the model: the state, and the text behind the first `at` bytes of the buffer, which else is as it was
+pub record Gives (s : Stepped) (r : Step) (old new : List ℕ) (at : ℕ) : Type 0 where
   pub state-is : r .state ≡ s .state
-  pub text-is : take (r .length) out ≡ s .text
-  pub counts : Counts (r .length) out
+  pub put : Put old new at (r .next) (s .text)
 
 -- the masks of an input, and the run of its n rows
 abbrev pub masksIn : List ℕ → List ℕ

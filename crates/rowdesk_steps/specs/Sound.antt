@@ -1,7 +1,7 @@
 -- What every state keeps to, so that a pair can be evaluated at any step.
 use mathlib.Core.Path.{_≡_}
 use mathlib.Core.Bool.{true}
-use Prim.Native.Nat.{_+_, _≤_}
+use Prim.Native.Nat.{ℕ, _+_, _≤_}
 use Rattle.table.specs.Rows.{Row, Masks}
 use Rattle.rowdesk_steps.specs.declared.State.{State}
 
@@ -12,7 +12,7 @@ pub record Sound (s : State) : Type 0 where
   pub previous : Row (s .previous)
   pub few : s .rows ≤ 65536
 
--- a state after a step: sound, and where more may come one row further
-pub record Onward (old new : State) : Type 0 where
+-- a state after others: sound, and where more may come k rows further
+pub record Onward (k : ℕ) (old new : State) : Type 0 where
   pub sound : Sound new
-  pub rows : new .running ≡ true → new .rows ≡ old .rows + 1
+  pub rows : new .running ≡ true → new .rows ≡ old .rows + k

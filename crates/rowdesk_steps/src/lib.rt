@@ -1,10 +1,11 @@
-// rowdesk, step by step: each step takes the state and what was read, and gives the state and what to print.
+// rowdesk, step by step: each step takes the state and what was read, and gives the state and what to print, which it puts
+// behind the first `at` bytes of a buffer.
 ghost use mathlib.Core.Path.{_≡_};
-ghost use Prim.Native.Nat.{_≤_, _<_};
-ghost use lib.ListN.{length, take};
+ghost use Prim.Native.Nat.{_+_, _≤_, _<_};
+ghost use lib.ListN.{length};
 ghost use Rattle.algebra.specs.Prime.{p};
-ghost use Rattle.io.specs.Counts.{Counts};
 ghost use Rattle.table.specs.Rows.{Row};
+ghost use Rattle.text.specs.Put.{Put};
 ghost use Rattle.rowdesk_steps.specs.Model.{blank as blankState, refusedBy, pairLine, acceptOf, rowOf, endOf, feedOf, masksOf, startOf, Gives};
 ghost use Rattle.rowdesk_steps.specs.Sound.{Sound, Onward};
 use refusals::MASK_CONTENTS;
@@ -34,31 +35,30 @@ pub struct State {
     pub running: bool,
 }
 
-// The state after a step, and how many bytes the step put to be printed.
+// The state after a step, and the place behind what it put to be printed.
 pub struct Step {
     pub state: State,
-    pub length: usize,
+    pub next: usize,
 }
 
-fn refuse(s: State, number: u64, out: &mut [u8]) -> Step
-    requires { ⌜ 64 ≤ length (now out) ⌝ }
-    ensures { λ r. ⌜ Gives (refusedBy s number) r (now (out .exit)) ⌝ }
+fn refuse(s: State, number: u64, out: &mut [u8], at: usize) -> Step
+    requires { ⌜ at + 64 ≤ length (now out) ⌝ }
+    ensures { λ r. ⌜ Gives (refusedBy s number) r (now (out .entry)) (now (out .exit)) at ⌝ }
 {
-    let length = refused(number, out);
+    let next = refused(number, out, at);
     let mut state = s;
     state.running = false;
-    Step { state, length }
+    Step { state, next }
 }
 
 // The line of the pair of the previous row and the next.
-fn pair_line(s: State, next: &[u64; NUM_CPU_COLS], z_last: u64, out: &mut [u8]) -> usize
-    requires room { ⌜ 64 ≤ length (now out) ⌝ }
+fn pair_line(s: State, next: &[u64; NUM_CPU_COLS], z_last: u64, out: &mut [u8], at: usize) -> usize
+    requires room { ⌜ at + 64 ≤ length (now out) ⌝ }
     requires sound { ⌜ Sound s ⌝ }
     requires row { ⌜ Row (now next) ⌝ }
     requires weight { ⌜ «z_last» < p ⌝ }
     requires rows { ⌜ 0 < s .rows ⌝ }
-    ensures text { λ r. ⌜ take r (now (out .exit)) ≡ pairLine s (now (next .entry)) «z_last» ⌝ }
-    ensures counts { λ r. ⌜ Counts r (now (out .exit)) ⌝ }
+    ensures { λ r. ⌜ Put (now (out .entry)) (now (out .exit)) at r (pairLine s (now (next .entry)) «z_last») ⌝ }
 {
     let masks = s.masks;
     let previous = s.previous;
@@ -70,16 +70,16 @@ fn pair_line(s: State, next: &[u64; NUM_CPU_COLS], z_last: u64, out: &mut [u8]) 
         z_last,
         run_pairs::first_weight(index),
     );
-    line(index as u64, tally.count, tally.lowest, out)
+    line(index as u64, tally.count, tally.lowest, out, at)
 }
 
 // A row that is whole and canonical, and not one too many.
-fn accept(s: State, row: [u64; NUM_CPU_COLS], out: &mut [u8]) -> Step
-    requires room { ⌜ 64 ≤ length (now out) ⌝ }
+fn accept(s: State, row: [u64; NUM_CPU_COLS], out: &mut [u8], at: usize) -> Step
+    requires room { ⌜ at + 64 ≤ length (now out) ⌝ }
     requires sound { ⌜ Sound s ⌝ }
     requires row { ⌜ Row row ⌝ }
     requires few { ⌜ s .rows ≤ 65535 ⌝ }
-    ensures { λ r. ⌜ Gives (acceptOf s row) r (now (out .exit)) ⌝ }
+    ensures { λ r. ⌜ Gives (acceptOf s row) r (now (out .entry)) (now (out .exit)) at ⌝ }
 {
     let mut state = s;
     state.previous = row;
@@ -87,59 +87,60 @@ fn accept(s: State, row: [u64; NUM_CPU_COLS], out: &mut [u8]) -> Step
     if s.rows == 0 {
         state.first = row;
         state.rows = 1;
-        return Step { state, length: 0 };
+        return Step { state, next: at };
     }
-    let length = pair_line(s, &row, 1, out);
+    let next = pair_line(s, &row, 1, out, at);
     state.rows = s.rows + 1;
-    Step { state, length }
+    Step { state, next }
 }
 
 // A whole row.
-fn whole_row(s: State, row: [u64; NUM_CPU_COLS], out: &mut [u8]) -> Step
-    requires room { ⌜ 64 ≤ length (now out) ⌝ }
+fn whole_row(s: State, row: [u64; NUM_CPU_COLS], out: &mut [u8], at: usize) -> Step
+    requires room { ⌜ at + 64 ≤ length (now out) ⌝ }
     requires sound { ⌜ Sound s ⌝ }
-    ensures { λ r. ⌜ Gives (rowOf s row) r (now (out .exit)) ⌝ }
+    ensures { λ r. ⌜ Gives (rowOf s row) r (now (out .entry)) (now (out .exit)) at ⌝ }
 {
     if s.rows >= MAX_ROWS {
-        return refuse(s, ROW_LENGTH, out);
+        return refuse(s, ROW_LENGTH, out, at);
     }
     if !checks::canonical(&row) {
-        return refuse(s, ROW_CONTENTS, out);
+        return refuse(s, ROW_CONTENTS, out, at);
     }
-    accept(s, row, out)
+    accept(s, row, out, at)
 }
 
 // The end of the input: the last pair returns to the first row.
-fn finish(s: State, out: &mut [u8]) -> Step
-    requires room { ⌜ 64 ≤ length (now out) ⌝ }
+fn finish(s: State, out: &mut [u8], at: usize) -> Step
+    requires room { ⌜ at + 64 ≤ length (now out) ⌝ }
     requires sound { ⌜ Sound s ⌝ }
-    ensures { λ r. ⌜ Gives (endOf s) r (now (out .exit)) ⌝ }
+    ensures { λ r. ⌜ Gives (endOf s) r (now (out .entry)) (now (out .exit)) at ⌝ }
 {
     if s.rows == 0 {
-        return refuse(s, ROW_LENGTH, out);
+        return refuse(s, ROW_LENGTH, out, at);
     }
     let first = s.first;
-    let length = pair_line(s, &first, 0, out);
+    let next = pair_line(s, &first, 0, out, at);
     let mut state = s;
     state.running = false;
-    Step { state, length }
+    Step { state, next }
 }
 
 // The step on what was read for a row: fewer bytes than a row has where the input ends, none at its end.
-pub fn feed(s: State, bytes: &[u8], out: &mut [u8; LINE_BYTES]) -> Step
-    requires { ⌜ Sound s ⌝ }
-    ensures gives { λ r. ⌜ Gives (feedOf s (now (bytes .entry))) r (now (out .exit)) ⌝ }
-    ensures onward { λ r. ⌜ Onward s (r .state) ⌝ }
+pub fn feed(s: State, bytes: &[u8], out: &mut [u8], at: usize) -> Step
+    requires room { ⌜ at + 64 ≤ length (now out) ⌝ }
+    requires sound { ⌜ Sound s ⌝ }
+    ensures gives { λ r. ⌜ Gives (feedOf s (now (bytes .entry))) r (now (out .entry)) (now (out .exit)) at ⌝ }
+    ensures onward { λ r. ⌜ Onward 1 s (r .state) ⌝ }
 {
     if bytes.len() == 0 {
-        return finish(s, out);
+        return finish(s, out, at);
     }
     if bytes.len() == ROW_BYTES {
         let mut row = [0u64; NUM_CPU_COLS];
         words::decode(bytes, &mut row);
-        return whole_row(s, row, out);
+        return whole_row(s, row, out, at);
     }
-    refuse(s, ROW_LENGTH, out)
+    refuse(s, ROW_LENGTH, out, at)
 }
 
 // The state before the masks are read.
@@ -158,20 +159,21 @@ fn blank() -> State
 // All 25 masks.
 fn with_masks(masks: [u64; NUM_MASKS], out: &mut [u8]) -> Step
     requires room { ⌜ 64 ≤ length (now out) ⌝ }
-    ensures { λ r. ⌜ Gives (masksOf masks) r (now (out .exit)) ⌝ }
+    ensures { λ r. ⌜ Gives (masksOf masks) r (now (out .entry)) (now (out .exit)) 0 ⌝ }
 {
     let mut state = blank();
     if checks::mask_contents(&masks) {
-        return refuse(state, MASK_CONTENTS, out);
+        return refuse(state, MASK_CONTENTS, out, 0);
     }
     state.masks = masks;
     state.running = true;
-    Step { state, length: 0 }
+    Step { state, next: 0 }
 }
 
-// The step on what was read for the masks: fewer bytes than they have where the input ends.
+// The step on what was read for the masks: fewer bytes than they have where the input ends. What it prints stands at the start of
+// the buffer.
 pub fn start(bytes: &[u8], out: &mut [u8; LINE_BYTES]) -> Step
-    ensures gives { λ r. ⌜ Gives (startOf (now (bytes .entry))) r (now (out .exit)) ⌝ }
+    ensures gives { λ r. ⌜ Gives (startOf (now (bytes .entry))) r (now (out .entry)) (now (out .exit)) 0 ⌝ }
     ensures sound { λ r. ⌜ Sound (r .state) ⌝ }
 {
     if bytes.len() == MASK_BYTES {
@@ -179,5 +181,5 @@ pub fn start(bytes: &[u8], out: &mut [u8; LINE_BYTES]) -> Step
         words::decode(bytes, &mut masks);
         return with_masks(masks, out);
     }
-    refuse(blank(), MASK_COUNT, out)
+    refuse(blank(), MASK_COUNT, out, 0)
 }

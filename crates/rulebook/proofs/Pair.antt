@@ -31,10 +31,9 @@ fair-table = refl
 
 -- distinct numbers differ at any two places
 not-member : (a : ℕ) (l : List ℕ) → member a l ≡ false → (j : ℕ) → j < length l → a ≢ getD l j 0
-unfolding member
 not-member a [] h j l e = not-suc-le-zero l
-not-member a (b ∷ bs) h zero l e = true≢false (sym (or-left _ _ (eq-eqb b a (sym e))) ∙ h)
-not-member a (b ∷ bs) h (suc j) l e = not-member a bs (rest (eqb b a) (member a bs) h) j (le-of-suc-le-suc l) e
+not-member a (b ∷ bs) h zero l e = true≢false (sym (or-left _ _ (eq-eqb a b e)) ∙ h)
+not-member a (b ∷ bs) h (suc j) l e = not-member a bs (rest (eqb a b) (member a bs) h) j (le-of-suc-le-suc l) e
   where
     rest : (c d : Bool) → (c || d) ≡ false → d ≡ false
     rest true d k = absurd (true≢false k)

@@ -12,10 +12,10 @@ use Rattle.algebra.specs.Field.{𝔾}
 use Rattle.algebra.specs.Expr.{Expr, con, eval}
 use Rattle.algebra.proofs.Lists.{below}
 use Rattle.algebra.proofs.Field.{𝔾·isRing}
+use Rattle.refusals.specs.Refusal.{member}
 use Rattle.table.specs.Cells.{Cell, zLast}
 use Rattle.table.specs.Entry.{Kind, plain, transition, first, Entry, constraint}
 use Rattle.rulebook.specs.Rule.{Rule, fact, Sentence, always, [t], [f], holds, keepsSentence, keepsAll}
-use Rattle.rulebook.specs.Kind.{member}
 use Rattle.rulebook.proofs.Tests.{bool-ext, and-left, and-right, and-intro, or-cases, all, all-append, all-getD, getD-all, isZero, eq-isZero}
 use Rattle.rulebook.proofs.Poly.{Poly, Means}
 use Rattle.rulebook.proofs.Values.{env}

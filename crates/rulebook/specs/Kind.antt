@@ -1,5 +1,5 @@
 -- The kind of an instruction: "a number 0 to 18", in the source's order of the selectors.
-use mathlib.Core.Bool.{Bool, false, cond, _||_}
+use mathlib.Core.Bool.{cond}
 use mathlib.Core.List.{List, [], _∷_}
 use Prim.Native.Nat.{ℕ, zero, suc, _+_}
 use lib.Dec.{eqb}
@@ -75,10 +75,6 @@ firstOne g a (suc n) = cond (eqb (g a) 1) 0 (suc (firstOne g (suc a) n))
 -- the kind of the current row: the place of the first selector that is 1 (19 where there is none)
 unfoldable pub kindOf : (Cell → ℕ) → ℕ
 kindOf x = firstOne (λ c. x (local c)) COL-S-SIMPLE-ARITHMATIC-OP NUM-OP-SELECTOR
-
-abbrev pub member : ℕ → List ℕ → Bool
-member k [] = false
-member k (j ∷ js) = eqb k j || member k js
 
 -- case by case: what stands beside the kind k, or else d
 abbrev pub choose {ℓ} : {A : Type ℓ} → ℕ → List (ℕ × A) → A → A

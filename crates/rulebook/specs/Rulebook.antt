@@ -1,15 +1,15 @@
 -- The rulebook of document 01, group by group and sentence by sentence, for a current row of kind k.
-use mathlib.Core.Bool.{Bool, cond}
+use mathlib.Core.Bool.{Bool}
 use mathlib.Core.List.{List, [], _∷_, _++_}
 use Prim.Native.Nat.{ℕ, _+_, _^_}
-use lib.Dec.{eqb, leb, ltb}
+use lib.Dec.{eqb, leb}
 use Rattle.algebra.specs.Expr.{Expr, con, _⊕_, _⊖_, _⊗_}
 use Rattle.table.specs.Cells.{Cell, local, lv, nv, mask}
 use Rattle.table.specs.Entry.{sum}
 use Rattle.table.specs.Masks as M
-use Rattle.table.specs.Columns.{REGISTER-NUM, CTX-REGISTER-NUM, NUM-OP-SELECTOR, COL-TX-IDX as TX-IDX, COL-ENV-IDX as ENV-IDX, COL-CALL-SC-CNT as CALL-SC-CNT, COL-ADDR-STORAGE-RANGE-START as STORAGE, COL-ADDR-CODE-RANGE-START as CODE, COL-TP as TP, COL-CLK as CLK, COL-PC as PC, COL-EXT-CNT as EXT-CNT, COL-REGS-START as REGS, COL-INST as INST, COL-OP1-IMM as OP1-IMM, COL-OPCODE as OPCODE, COL-IMM-VAL as IMM-VAL, COL-OP0 as OP0, COL-OP1 as OP1, COL-DST as DST, COL-AUX0 as AUX0, COL-AUX1 as AUX1, COL-S-OP0-START as S-OP0, COL-S-OP1-START as S-OP1, COL-S-DST-START as S-DST, COL-S-SIMPLE-ARITHMATIC-OP as SELECTORS, COL-S-END as S-END, COL-S-CALL-SC as S-CALL-SC, COL-FILTER-TAPE-LOOKING as FILTER-TAPE-LOOKING, IS-SCCALL-EXT-LINE, COL-FILTER-SCCALL-END as FILTER-SCCALL-END, COL-FILTER-LOOKING-PROG-IMM as FILTER-LOOKING-PROG-IMM}
+use Rattle.table.specs.Columns.{REGISTER-NUM, CTX-REGISTER-NUM, NUM-OP-SELECTOR, COL-TX-IDX as TX-IDX, COL-ENV-IDX as ENV-IDX, COL-CALL-SC-CNT as CALL-SC-CNT, COL-ADDR-STORAGE-RANGE-START as STORAGE, COL-ADDR-CODE-RANGE-START as CODE, COL-TP as TP, COL-CLK as CLK, COL-PC as PC, COL-IS-EXT-LINE as IS-EXT-LINE, COL-EXT-CNT as EXT-CNT, COL-REGS-START as REGS, COL-INST as INST, COL-OP1-IMM as OP1-IMM, COL-OPCODE as OPCODE, COL-IMM-VAL as IMM-VAL, COL-OP0 as OP0, COL-OP1 as OP1, COL-DST as DST, COL-AUX0 as AUX0, COL-AUX1 as AUX1, COL-S-OP0-START as S-OP0, COL-S-OP1-START as S-OP1, COL-S-DST-START as S-DST, COL-S-SIMPLE-ARITHMATIC-OP as SELECTORS, COL-S-END as S-END, COL-S-CALL-SC as S-CALL-SC, COL-FILTER-TAPE-LOOKING as FILTER-TAPE-LOOKING, IS-SCCALL-EXT-LINE, COL-FILTER-SCCALL-END as FILTER-SCCALL-END, COL-FILTER-LOOKING-PROG-IMM as FILTER-LOOKING-PROG-IMM}
 use Rattle.rulebook.specs.Rule.{Rule, fact, _≐_, deny, _and_, _or_, _⇒_, Sentence, always, [t], [f], keepsAll}
-use Rattle.rulebook.specs.Kind.{SIMPLE-ARITHMATIC-OP, JMP, CJMP, CALL, RET, MLOAD, MSTORE, END, BITWISE, PSDN, SLOAD, SSTORE, TLOAD, TSTORE, CALL-SC, ones, kindOf, choose}
+use Rattle.rulebook.specs.Kind.{SIMPLE-ARITHMATIC-OP, MOV, JMP, CJMP, CALL, RET, MLOAD, MSTORE, END, RC, BITWISE, NOT, GTE, PSDN, SLOAD, SSTORE, TLOAD, TSTORE, CALL-SC, ones, kindOf, choose}
 use Rattle.rulebook.specs.Words.{DIFF, SAME, ENTRY, PAD, on, off, on′, off′, main, ext, main′, ext′, kept, grows, bit, every, some, range, tells, _is_, _among_, next-among}
 
 -- "Ext kinds: SLOAD SSTORE TLOAD TSTORE CALL_SC END."
@@ -29,15 +29,33 @@ ext-length k =
     ∷ [])
     (con 0)
 
--- the places of the masks that a kind's OPCODE may have: "OPCODE is that one's mask; for arithmetic one of the first five, for bitwise
--- AND, OR or XOR"
-abbrev pub masks-of : ℕ → List ℕ
-masks-of k =
-    choose k
-    ((SIMPLE-ARITHMATIC-OP, M.ADD ∷ M.MUL ∷ M.EQ ∷ M.NEQ ∷ M.ASSERT ∷ [])
+-- "OPCODE is that one's mask; for arithmetic one of the first five, for bitwise AND, OR or XOR": each kind beside the places of its masks
+abbrev pub kind-masks : List (ℕ × List ℕ)
+kind-masks =
+    (SIMPLE-ARITHMATIC-OP, M.ADD ∷ M.MUL ∷ M.EQ ∷ M.NEQ ∷ M.ASSERT ∷ [])
+    ∷ (MOV, M.MOV ∷ [])
+    ∷ (JMP, M.JMP ∷ [])
+    ∷ (CJMP, M.CJMP ∷ [])
+    ∷ (CALL, M.CALL ∷ [])
+    ∷ (RET, M.RET ∷ [])
+    ∷ (MLOAD, M.MLOAD ∷ [])
+    ∷ (MSTORE, M.MSTORE ∷ [])
+    ∷ (END, M.END ∷ [])
+    ∷ (RC, M.RC ∷ [])
     ∷ (BITWISE, M.AND ∷ M.OR ∷ M.XOR ∷ [])
-    ∷ [])
-    (cond (ltb k BITWISE) (k + 7) (k + 6) ∷ [])
+    ∷ (NOT, M.NOT ∷ [])
+    ∷ (GTE, M.GTE ∷ [])
+    ∷ (PSDN, M.POSEIDON ∷ [])
+    ∷ (SLOAD, M.SLOAD ∷ [])
+    ∷ (SSTORE, M.SSTORE ∷ [])
+    ∷ (TLOAD, M.TLOAD ∷ [])
+    ∷ (TSTORE, M.TSTORE ∷ [])
+    ∷ (CALL-SC, M.SCCALL ∷ [])
+    ∷ []
+
+-- those of the kind k
+abbrev pub masks-of : ℕ → List ℕ
+masks-of k = choose k kind-masks []
 
 -- "size is 2 for MLOAD, MSTORE, else 1 + OP1_IMM"
 abbrev pub size : ℕ → Expr Cell
@@ -99,7 +117,7 @@ module _ (x : Cell → ℕ) (k : ℕ) where
       and (on ENTRY and k is END ⇒ grows TX-IDX 1)
       and (deny (k among (END ∷ CALL-SC ∷ [])) ⇒ every (range STORAGE CTX-REGISTER-NUM) kept and every (range CODE CTX-REGISTER-NUM) kept))
       -- "Where pad equals IS_EXT_LINE: OP1_IMM 1, MLOAD or MSTORE → column 92 is 1."
-      ∷ always ((off PAD and main) or (on PAD and ext) ⇒ on OP1-IMM or k among (MLOAD ∷ MSTORE ∷ []) ⇒ on FILTER-LOOKING-PROG-IMM)
+      ∷ always (lv PAD ≐ lv IS-EXT-LINE ⇒ on OP1-IMM or k among (MLOAD ∷ MSTORE ∷ []) ⇒ on FILTER-LOOKING-PROG-IMM)
       ∷ []
 
   unfoldable pub rules-D : List Sentence

@@ -4,10 +4,10 @@ use mathlib.Core.List.{List, [], _∷_}
 use Prim.Native.Nat.{ℕ, zero, suc, _+_}
 use lib.Dec.{eqb}
 use Rattle.algebra.specs.Expr.{Expr, con, _⊕_}
+use Rattle.refusals.specs.Refusal.{member}
 use Rattle.table.specs.Cells.{Cell, lv, nv}
 use Rattle.table.specs.Columns.{COL-IS-EXT-LINE, COL-S-SIMPLE-ARITHMATIC-OP, COL-IS-ENTRY-SC, COL-IS-NEXT-LINE-DIFF-INST, COL-IS-NEXT-LINE-SAME-TX, COL-IS-PADDING}
 use Rattle.rulebook.specs.Rule.{Rule, fact, _≐_, deny, _and_, _or_, _⇒_}
-use Rattle.rulebook.specs.Kind.{member}
 
 -- "diff, same, entry, pad: columns 86, 87, 85, 93"
 abbrev pub DIFF : ℕ

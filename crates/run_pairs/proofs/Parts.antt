@@ -1,12 +1,12 @@
 -- The parts of a lent run that are handed on are its rows, and as the core asks.
 use mathlib.Core.Path.{_≡_, sym, ap, _∙_}
-use mathlib.Core.Bool.{true}
+use mathlib.Core.Bool.{true, false, not}
 use mathlib.Core.List.{List, [], _∷_}
 use Prim.Native.Nat.{ℕ, _+_, _-_, _*_, _%_, _≤_, _<_}
 use native.Mathlib.Omega.{arith}
 use lib.ListN.{length, take, drop, length-take, length-drop}
-use lib.Dec.{eqb, lit<}
-use borrow.Author.Tests.{eq-eqb, ne-eqb, not-false}
+use lib.Dec.{eqb, ltb, lit<}
+use borrow.Author.Tests.{eq-eqb, ne-eqb, eqb-false, not-false}
 use Rattle.algebra.specs.Prime.{p}
 use Rattle.refusals.specs.Refusal.{canonical, runLength, maskCount, maskContents, rowContents}
 use Rattle.refusals.proofs.Laws.{Clear, clear, length-is, none-true, canonical-part, canonical-below}
@@ -32,10 +32,19 @@ module _ (run masks : List ℕ) (e : runRefusal run masks ≡ 0) where
   unfolding runRefusal
   clears = clear (runLength run ∷ maskCount masks ∷ maskContents masks ∷ rowContents run ∷ []) tt e
 
+  -- it is whole rows, and one at least
+  whole : (not (eqb (length run % 94) 0) ≡ false) × (eqb (length run) 0 ≡ false)
+  whole = none-true _ _ (none-true _ (ltb 65536 (rowCount run)) (clears .0) .0)
+
   run-is : length run ≡ 94 * rowCount run
   run-is =
-      let r : length run % 94 ≡ 0 = length-is _ _ (none-true _ _ (none-true _ _ (clears .0) .0) .0) in
+      let r : length run % 94 ≡ 0 = length-is _ _ (whole .0) in
       omega arith
+
+  pub some-row : 0 < rowCount run
+  some-row =
+      let h : length run ≡ 0 → ⊥ = eqb-false _ _ (whole .1) in
+      omega (arith, run-is)
 
   pub accepted : Accepted masks
   accepted =

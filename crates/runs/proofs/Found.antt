@@ -8,12 +8,13 @@ use native.Mathlib.Omega.{arith}
 use lib.ListN.{length}
 use lib.Dec.{eqb}
 use borrow.Author.Tests.{eq-eqb, ne-eqb, eqb-true}
+use Rattle.refusals.proofs.Laws.{refused-unless, given-unless}
 use Rattle.tally.specs.Tally.{nonzeros, firstFrom}
 use Rattle.run_pairs.specs.Run.{rowCount, pairAt, tabulate, pairsOf, runRefusal}
 use Rattle.answers.specs.declared.Report.{Report}
 use Rattle.answers.specs.declared.Spot.{Spot}
 use Rattle.answers.specs.declared.Spot.the-variants.{Clean, At}
-use Rattle.runs.specs.Report.{failing, spotFrom, reported, refusedBy, reportOf}
+use Rattle.runs.specs.Report.{failing, spotFrom, reported, zeroReport, reportOf}
 
 -- what stands found of the pairs before i, with f i the values of pair i
 pub record Found (f : ℕ → List ℕ) (n i count : ℕ) (spot : Spot) : Type 0 where
@@ -118,10 +119,10 @@ found-report run masks i count spot k h =
 
 -- the report of a run that is turned back, and of one that is not
 module _ (run masks : List ℕ) where
-  pub report-refused : (runRefusal run masks ≡ 0 → ⊥) → reportOf run masks ≡ refusedBy (runRefusal run masks)
+  pub report-refused : (n : ℕ) → n ≡ runRefusal run masks → (n ≡ 0 → ⊥) → zeroReport n ≡ reportOf run masks
   unfolding reportOf
-  report-refused h = simp (ne-eqb _ _ h)
+  report-refused n = refused-unless zeroReport (reported (pairsOf run masks)) n (runRefusal run masks)
 
   pub report-done : runRefusal run masks ≡ 0 → reportOf run masks ≡ reported (pairsOf run masks)
   unfolding reportOf
-  report-done h = simp (eq-eqb _ _ h)
+  report-done h = sym (given-unless zeroReport (reported (pairsOf run masks)) (runRefusal run masks) h)

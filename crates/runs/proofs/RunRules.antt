@@ -8,9 +8,10 @@ use mathlib.Core.List.{List}
 use Prim.Native.Nat.{ℕ, _+_, _<_}
 use native.Mathlib.Omega.{arith}
 use lib.Dec.{eqb, lit<}
-use borrow.Author.Tests.{eqb-true, eqb-false}
+use borrow.Author.Tests.{eqb-false}
 use Rattle.algebra.specs.Prime.{p}
 use Rattle.algebra.specs.Lists.{All}
+use Rattle.refusals.proofs.Laws.{by-unless}
 use Rattle.rulebook.proofs.Tests.{true-of, of-true, by-cond}
 use Rattle.rulebook.proofs.Theorem.{rules-iff-values}
 use Rattle.tally.specs.Tally.{nonzeros}
@@ -19,18 +20,17 @@ use Rattle.run_pairs.specs.Run.{rowCount, isLastPair, nextRow, pairAt, pairsOf,
 use Rattle.run_pairs.proofs.Parts.{accepted, row-is}
 use Rattle.answers.specs.declared.Report.{Report}
 use Rattle.answers.specs.declared.Spot.the-variants.{Clean, At}
-use Rattle.runs.specs.Report.{reported, refusedBy, reportOf}
+use Rattle.runs.specs.Report.{reported, zeroReport, reportOf}
 use Rattle.runs.specs.RunRules.{PlainAt, KeepsAt, EveryPair}
 use Rattle.runs.proofs.Found.{length-tabulate, report-done}
 use Rattle.runs.proofs.Pairs.{zeros-of-failing, failing-of-zeros, zeros-of-clean, clean-of-zeros, all-of-each, each-of-all, first-of-spot}
 
 module _ (run masks : List ℕ) where
   -- the report by cases: of a run that is not turned back, and of one that is
-  by-refusal : (P : Report → Type 0) → (runRefusal run masks ≡ 0 → P (reported (pairsOf run masks))) → P (refusedBy (runRefusal run masks))
+  by-refusal : (P : Report → Type 0) → (runRefusal run masks ≡ 0 → P (reported (pairsOf run masks))) → P (zeroReport (runRefusal run masks))
       → P (reportOf run masks)
   unfolding reportOf
-  by-refusal P a b =
-      by-cond P (eqb (runRefusal run masks) 0) (reported (pairsOf run masks)) (refusedBy (runRefusal run masks)) (λ q. a (eqb-true _ 0 q)) b
+  by-refusal P = by-unless zeroReport (reported (pairsOf run masks)) P (runRefusal run masks)
 
   -- the number of the report is that of the refusal
   pub report-number : reportOf run masks .number ≡ runRefusal run masks

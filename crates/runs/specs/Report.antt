@@ -7,6 +7,7 @@ use lib.Dec.{eqb}
 use Rattle.answers.specs.declared.Report.{Report}
 use Rattle.answers.specs.declared.Spot.{Spot}
 use Rattle.answers.specs.declared.Spot.the-variants.{Clean, At}
+use Rattle.refusals.specs.Refusal.{unless}
 use Rattle.tally.specs.Tally.{nonzeros, firstFrom}
 use Rattle.run_pairs.specs.Run.{pairsOf, runRefusal}
 
@@ -24,9 +25,9 @@ abbrev pub reported : List (List ℕ) → Report
 reported pairs = record { number = 0; pairs = length pairs; failing = failing pairs; spot = spotFrom 0 pairs }
 
 -- "The number returns with a zero report (0, 0, none)"
-abbrev pub refusedBy : ℕ → Report
-refusedBy number = record { number = number; pairs = 0; failing = 0; spot = Clean }
+abbrev pub zeroReport : ℕ → Report
+zeroReport number = record { number = number; pairs = 0; failing = 0; spot = Clean }
 
 -- the report of a run
 unfoldable pub reportOf : List ℕ → List ℕ → Report
-reportOf run masks = cond (eqb (runRefusal run masks) 0) (reported (pairsOf run masks)) (refusedBy (runRefusal run masks))
+reportOf run masks = unless (runRefusal run masks) zeroReport (reported (pairsOf run masks))

@@ -1,16 +1,16 @@
 // CpuStark: the groups of this stage that are made of several pieces.
 ghost use mathlib.Core.Path.{_≡_};
-ghost use mathlib.Core.List.{[]};
+ghost use mathlib.Core.List.{[], _∷_};
 ghost use Prim.Native.Nat.{_+_, _<_, _≤_};
 ghost use lib.ListN.{length};
 ghost use Rattle.algebra.specs.Prime.{p};
 ghost use Rattle.residue.specs.Residues.{residues};
 ghost use Rattle.parts.specs.Parts.{write};
 ghost use Rattle.table.specs.Rows.{Rows};
+ghost use Rattle.table.specs.Shared.{Shared};
 ghost use Rattle.table.specs.Cells.{cells};
 ghost use Rattle.table.specs.Entry.{values};
-ghost use Rattle.table.specs.CpuStark.{constraint-tx-init, eval-packed-generic-body, constraint-ext-lines};
-ghost use Rattle.cpu_wrapper.specs.Length.{Length};
+ghost use Rattle.table.specs.CpuStark.{lv-ext-length, constraint-tx-init, eval-packed-generic-body, constraint-ext-lines};
 use parts::put;
 
 pub fn constraint_tx_init(
@@ -54,7 +54,7 @@ pub fn eval_packed_generic_body(lv: &[u64], nv: &[u64], z_last: u64, out: &mut [
 
 pub fn constraint_ext_lines(lv: &[u64], nv: &[u64], out: &mut [u64], at: usize, ext_length: u64)
     requires rows { ⌜ Rows (now lv) (now nv) ⌝ }
-    requires length { ⌜ Length (now lv) «ext_length» ⌝ }
+    requires length { ⌜ Shared (lv-ext-length ∷ []) (now lv) [] («ext_length» ∷ []) ⌝ }
     requires room { ⌜ at + 25 ≤ length (now out) ⌝ }
     ensures { λ _. ⌜ now (out .exit) ≡ write (now (out .entry)) at (values residues (cells [] (now (lv .entry)) (now (nv .entry)) 0 0) constraint-ext-lines) ⌝ }
 {

@@ -10,7 +10,8 @@ ghost use Rattle.table.specs.Rows.{Rows};
 ghost use Rattle.table.specs.Cells.{cells};
 ghost use Rattle.table.specs.Entry.{values};
 ghost use Rattle.table.specs.CallSc.{call-sc-addresses, call-sc-operands, call-sc-cleared-head, call-sc-cleared-regs, call-sc};
-ghost use Rattle.cpu_factors.specs.Factors.{Given};
+ghost use Rattle.table.specs.Shared.{Shared};
+ghost use Rattle.cpu_factors.specs.Factors.{row-factors};
 use cpu_after_call_sc::after_call_sc::*;
 use cpu_call_sc::call_sc::*;
 use parts::put;
@@ -26,7 +27,7 @@ pub fn call_sc_up_to_regs(
 )
     requires rows { ⌜ Rows (now lv) (now nv) ⌝ }
     requires z { ⌜ «z_last» < p ⌝ }
-    requires factors { ⌜ Given (now lv) (now factors) ⌝ }
+    requires factors { ⌜ Shared row-factors (now lv) [] (now factors) ⌝ }
     requires room { ⌜ at + 24 ≤ length (now out) ⌝ }
     ensures { λ _. ⌜ now (out .exit) ≡ write (now (out .entry)) at (values residues (cells [] (now (lv .entry)) (now (nv .entry)) «z_last» 0) (call-sc-addresses ++ call-sc-operands ++ call-sc-cleared-head ++ call-sc-cleared-regs)) ⌝ }
 {
@@ -50,7 +51,7 @@ pub fn eval_packed_generic(
 )
     requires rows { ⌜ Rows (now lv) (now nv) ⌝ }
     requires z { ⌜ «z_last» < p ⌝ }
-    requires factors { ⌜ Given (now lv) (now factors) ⌝ }
+    requires factors { ⌜ Shared row-factors (now lv) [] (now factors) ⌝ }
     requires room { ⌜ at + 42 ≤ length (now out) ⌝ }
     ensures { λ _. ⌜ now (out .exit) ≡ write (now (out .entry)) at (values residues (cells [] (now (lv .entry)) (now (nv .entry)) «z_last» 0) call-sc) ⌝ }
 {

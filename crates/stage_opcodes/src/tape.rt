@@ -9,12 +9,13 @@ ghost use Rattle.table.specs.Rows.{Rows};
 ghost use Rattle.table.specs.Cells.{cells};
 ghost use Rattle.table.specs.Entry.{values};
 ghost use Rattle.table.specs.Tape.{tape};
-ghost use Rattle.cpu_factors.specs.Factors.{Given};
+ghost use Rattle.table.specs.Shared.{Shared};
+ghost use Rattle.cpu_factors.specs.Factors.{row-factors};
 use parts::put;
 
 pub fn eval_packed_generic(lv: &[u64], nv: &[u64], out: &mut [u64], at: usize, factors: &[u64])
     requires rows { ⌜ Rows (now lv) (now nv) ⌝ }
-    requires factors { ⌜ Given (now lv) (now factors) ⌝ }
+    requires factors { ⌜ Shared row-factors (now lv) [] (now factors) ⌝ }
     requires room { ⌜ at + 21 ≤ length (now out) ⌝ }
     ensures { λ _. ⌜ now (out .exit) ≡ write (now (out .entry)) at (values residues (cells [] (now (lv .entry)) (now (nv .entry)) 0 0) tape) ⌝ }
 {

@@ -1,3 +1,5 @@
 pub mod Numbers
 pub mod Called
 pub mod Rows
+pub mod Shared
+pub mod Zero

@@ -2,9 +2,9 @@
 use mathlib.Core.Path.{_≡_}
 use mathlib.Core.List.{List, _++_}
 use Prim.Native.Nat.{ℕ, _+_}
-use lib.ListN.{length, take}
+use lib.ListN.{length, take, drop}
 
--- the text stands behind the first `at` bytes, which are kept, and ends before the place `next`
+-- the buffer is its first `at` bytes as they were, the text, and behind that what stood there; `next` is the place behind the text
 pub record Put (old new : List ℕ) (at next : ℕ) (text : List ℕ) : Type 0 where
-  pub is : take next new ≡ take at old ++ text
+  pub is : new ≡ take at old ++ text ++ drop (at + length text) old
   pub count : next ≡ at + length text

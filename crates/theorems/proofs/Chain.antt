@@ -1,30 +1,28 @@
 -- One chain: the judge's answer, the rulebook, the values. For accepted masks, canonical rows with plain flags and canonical weights the
--- judge says "keeps", for a row that is first and last as the weights tell, exactly if the values entry writes 226 zeros.
+-- judge says "keeps", for a row that is first and last as the weights tell, exactly if the values entry writes 226 zeros
+-- (`judged-iff-zeros`).
 use mathlib.Core.Path.{_≡_, refl, sym, ap, _∙_}
 use mathlib.Core.Logic.{_↔_}
-use mathlib.Core.Bool.{Bool, true, false, cond}
+use mathlib.Core.Bool.{Bool, true, false, cond, true≢false}
 use mathlib.Core.List.{List, [], _∷_, _++_}
-use Prim.Native.Nat.{ℕ, zero, suc, _<_, _≤_}
+use Prim.Native.Nat.{ℕ, zero, suc, _≤_}
 use native.Mathlib.Omega.{arith}
 use lib.ListN.{length, drop, take, replicate, length-replicate}
 use lib.Seq.{take-at}
-use lib.Dec.{T}
 use borrow.Author.Tests.{lt-ltb, le-ltb, eq-eqb}
-use Rattle.algebra.specs.Prime.{p}
 use Rattle.algebra.specs.Lists.{All}
-use Rattle.refusals.specs.Refusal.{canonical}
-use Rattle.table.specs.Rows.{Row}
+use Rattle.refusals.specs.Refusal.{canonical, unless}
 use Rattle.table.specs.Table.{pairValues}
 use Rattle.pair_checks.specs.PairValues.{pairValuesRefusal, pairValuesBuffer}
-use Rattle.rulebook.specs.Plain.{isFirst, isLast, Accepted, pairKeeps, pairPlain}
-use Rattle.rulebook.proofs.Theorem.{values-of-rules, rules-of-values}
-use Rattle.theorems.proofs.Demand3.{canonical-of, values-count}
-use Rattle.answers.specs.declared.Verdict.the-variants.{Keeps, Breaks}
-use Rattle.answers.specs.Verdict.{keepsOf, unless}
+use Rattle.rulebook.specs.Plain.{isFirst, isLast, pairKeeps}
+use Rattle.theorems.specs.Demand3.{Given}
+use Rattle.theorems.proofs.Demand3.{canonical-of, values-count, keeps-iff-zeros}
+use Rattle.answers.specs.declared.Verdict.the-variants.{Keeps, Breaks, Refused}
+use Rattle.answers.specs.Verdict.{keepsOf}
 use Rattle.judge.specs.Verdict.{judgeRefusal, verdictOf}
 
 -- zeros, listed
-zeros-are : (n : ℕ) (vs : List ℕ) → length vs ≡ n → All (λ v. v ≡ 0) vs → vs ≡ replicate n 0
+pub zeros-are : (n : ℕ) (vs : List ℕ) → length vs ≡ n → All (λ v. v ≡ 0) vs → vs ≡ replicate n 0
 zeros-are zero [] e h = refl
 zeros-are zero (v ∷ vs) e h = absurd (omega arith)
 zeros-are (suc n) [] e h = absurd (omega arith)
@@ -38,30 +36,31 @@ all-zeros n e = rw e (zeros n)
     zeros (suc n) = (refl, zeros n)
 
 -- the verdict "keeps"
-keeps-is : (b : Bool) → T b → cond b Keeps Breaks ≡ Keeps
+keeps-is : (b : Bool) → b ≡ true → cond b Keeps Breaks ≡ Keeps
 keeps-is true h = refl
-keeps-is false h = absurd h
+keeps-is false h = absurd (true≢false (sym h))
 
-is-keeps : (b : Bool) → cond b Keeps Breaks ≡ Keeps → T b
-is-keeps true e = tt
+is-keeps : (b : Bool) → cond b Keeps Breaks ≡ Keeps → b ≡ true
+is-keeps true e = refl
 is-keeps false e = absurd (let z : _≡_ {A = ℕ} 0 1 = ap keepsOf e in omega arith)
 
-module _ (masks lv nv : List ℕ) (z f : ℕ) (accepted : Accepted masks) (row : Row lv) (next-row : Row nv) (plain : pairPlain lv nv ≡ true)
-    (z-below : z < p) (f-below : f < p) where
+module _ (masks lv nv : List ℕ) (z f : ℕ) (given : Given masks lv nv z f) where
   not-refused : judgeRefusal masks lv nv ≡ 0
   unfolding judgeRefusal
   not-refused =
-      simp (row .size, next-row .size, accepted .size, canonical-of lv (row .below), canonical-of nv (next-row .below), accepted .below, accepted .differ, plain)
+      let a = given .accepted in
+      simp (given .row .size, given .next-row .size, a .size, canonical-of lv (given .row .below), canonical-of nv (given .next-row .below), a .below, a .differ, given .plain)
 
   judged : verdictOf masks lv nv (isFirst f) (isLast z) ≡ cond (pairKeeps masks lv nv (isFirst f) (isLast z)) Keeps Breaks
   unfolding verdictOf
-  judged = ap (λ (n : ℕ). unless n (pairKeeps masks lv nv (isFirst f) (isLast z))) not-refused
+  judged = ap (λ (n : ℕ). unless n Refused (cond (pairKeeps masks lv nv (isFirst f) (isLast z)) Keeps Breaks)) not-refused
 
   module _ (out : List ℕ) (room : 226 ≤ length out) where
     accepted-values : pairValuesRefusal masks lv nv z f (length out) ≡ 0
     unfolding pairValuesRefusal canonical
     accepted-values =
-        simp (row .size, next-row .size, accepted .size, canonical-of lv (row .below), canonical-of nv (next-row .below), accepted .below, accepted .differ, le-ltb _ _ room, lt-ltb _ _ z-below, lt-ltb _ _ f-below)
+        let a = given .accepted in
+        simp (given .row .size, given .next-row .size, a .size, canonical-of lv (given .row .below), canonical-of nv (given .next-row .below), a .below, a .differ, le-ltb _ _ room, lt-ltb _ _ (given .z-below), lt-ltb _ _ (given .f-below))
 
     written : pairValuesBuffer masks lv nv z f out ≡ pairValues masks lv nv z f ++ drop 226 out
     unfolding pairValuesBuffer
@@ -71,14 +70,14 @@ module _ (masks lv nv : List ℕ) (z f : ℕ) (accepted : Accepted masks) (row :
     zeros-of-keeps e =
         written
         ∙ ap (λ (vs : List ℕ). vs ++ drop 226 out) (zeros-are 226 (pairValues masks lv nv z f) (values-count masks lv nv z f)
-        (values-of-rules masks lv nv z f accepted row next-row plain z-below f-below (is-keeps (pairKeeps masks lv nv (isFirst f) (isLast z)) (sym judged ∙ e))))
+        (keeps-iff-zeros masks lv nv z f given .0 (is-keeps (pairKeeps masks lv nv (isFirst f) (isLast z)) (sym judged ∙ e))))
 
     keeps-of-zeros : pairValuesBuffer masks lv nv z f out ≡ replicate 226 0 ++ drop 226 out → verdictOf masks lv nv (isFirst f) (isLast z) ≡ Keeps
     keeps-of-zeros e =
         judged
         ∙ keeps-is (pairKeeps masks lv nv (isFirst f) (isLast z))
-        (rules-of-values masks lv nv z f accepted row next-row plain z-below f-below
+        (keeps-iff-zeros masks lv nv z f given .1
         (all-zeros 226 (sym (take-at (pairValues masks lv nv z f) (drop 226 out) 226 (values-count masks lv nv z f)) ∙ ap (take 226) (sym written ∙ e) ∙ take-at (replicate 226 0) (drop 226 out) 226 (length-replicate {A = ℕ} 226 0))))
 
-    pub keeps-iff-zeros : (verdictOf masks lv nv (isFirst f) (isLast z) ≡ Keeps) ↔ (pairValuesBuffer masks lv nv z f out ≡ replicate 226 0 ++ drop 226 out)
-    keeps-iff-zeros = (zeros-of-keeps, keeps-of-zeros)
+    pub judged-iff-zeros : (verdictOf masks lv nv (isFirst f) (isLast z) ≡ Keeps) ↔ (pairValuesBuffer masks lv nv z f out ≡ replicate 226 0 ++ drop 226 out)
+    judged-iff-zeros = (zeros-of-keeps, keeps-of-zeros)

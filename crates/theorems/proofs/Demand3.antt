@@ -1,5 +1,6 @@
--- Demand 3, of the call that folds a pair: a pair of canonical rows with plain flags keeps every rule of the rulebook exactly when it
--- folds from zero to zero under more than 225 of the p alphas, and it then does so under all p.
+-- Demand 3, of the call that folds a pair: a pair of canonical rows with plain flags keeps every rule of the rulebook
+-- exactly when it folds from zero to zero under more than 225 of the p alphas, and it then does so under all p. The
+-- theorem stands at the end; what it says is the record Demand3 of specs/Demand3.antt.
 use mathlib.Core.Path.{_≡_, refl, sym, ap, _∙_}
 use mathlib.Core.Logic.{_↔_}
 use mathlib.Core.Bool.{true}
@@ -7,7 +8,7 @@ use mathlib.Core.List.{List, [], _∷_, map}
 use Prim.Native.Nat.{ℕ, suc, _<_, _≤_}
 use native.Mathlib.Omega.{arith}
 use lib.ListN.{length, getD}
-use lib.Dec.{T, ltb}
+use lib.Dec.{ltb}
 use borrow.Author.Tests.{lt-ltb, eq-eqb}
 use Rattle.algebra.specs.Prime.{p}
 use Rattle.algebra.specs.Fold.{fold}
@@ -21,15 +22,15 @@ use Rattle.table.specs.Entry.{Entry, weightedBy, values}
 use Rattle.table.specs.Table.{table, pairValues}
 use Rattle.table.proofs.Numbers.{table-length}
 use Rattle.parts.proofs.Written.{length-values}
-use Rattle.rulebook.specs.Plain.{isFirst, isLast, Accepted, pairKeeps, pairPlain}
-use Rattle.rulebook.proofs.Tests.{all, and-left, and-right}
+use Rattle.rulebook.proofs.Tests.{true-of, of-true, all, and-left, and-right}
 use Rattle.rulebook.proofs.Cells.{line}
 use Rattle.rulebook.proofs.Weights.{reads-rows, fair, value-lt}
 use Rattle.rulebook.proofs.Pair.{fair-table, pair, same-rows, canonical-cells}
-use Rattle.rulebook.proofs.Theorem.{values-of-rules, rules-of-values}
+use Rattle.rulebook.proofs.Theorem.{rules-iff-values}
 use Rattle.consumer.specs.Yielded.{folds}
 use Rattle.pair_fold_checks.specs.PairFold.{pairFoldRefusal, pairFoldAccumulators}
 use Rattle.theorems.specs.ManyFold.{FoldsToZero, Many}
+use Rattle.theorems.specs.Demand3.{Given, KeepsEveryRule, Demand3}
 use Rattle.theorems.proofs.Roots.{zero-values, zeros-fold}
 
 -- numbers that are below p at every place are canonical
@@ -50,15 +51,13 @@ pub values-count : (masks lv nv : List ℕ) (z f : ℕ) → length (pairValues m
 unfolding pairValues
 values-count masks lv nv z f = length-values (cells masks lv nv z f) table ∙ table-length
 
--- Let masks be accepted, both rows canonical, their flags plain, and both weights canonical. The row is first where
--- lagrange_basis_first (f) is not 0, and last where z_last (z) is 0.
-module _ (masks lv nv : List ℕ) (z f : ℕ) (accepted : Accepted masks) (row : Row lv) (next-row : Row nv) (plain : pairPlain lv nv ≡ true)
-    (z-below : z < p) (f-below : f < p) where
+module _ (masks lv nv : List ℕ) (z f : ℕ) (given : Given masks lv nv z f) where
   -- the call with one alpha below p and the accumulator 0 is not turned back, and its answer is the fold of the values
   not-refused : (alpha : ℕ) → alpha < p → pairFoldRefusal masks lv nv z f (alpha ∷ []) (0 ∷ []) ≡ 0
   unfolding pairFoldRefusal canonical
   not-refused alpha h =
-      simp (row .size, next-row .size, accepted .size, canonical-of lv (row .below), canonical-of nv (next-row .below), accepted .below, accepted .differ, lt-ltb _ _ z-below, lt-ltb _ _ f-below, lt-ltb _ _ h)
+      let a = given .accepted in
+      simp (given .row .size, given .next-row .size, a .size, canonical-of lv (given .row .below), canonical-of nv (given .next-row .below), a .below, a .differ, lt-ltb _ _ (given .z-below), lt-ltb _ _ (given .f-below), lt-ltb _ _ h)
 
   folded : (alpha : ℕ) → alpha < p → pairFoldAccumulators masks lv nv z f (alpha ∷ []) (0 ∷ []) ≡ fold residues alpha 0 (pairValues masks lv nv z f) ∷ []
   unfolding pairFoldAccumulators folds
@@ -68,18 +67,25 @@ module _ (masks lv nv : List ℕ) (z f : ℕ) (accepted : Accepted masks) (row :
   unfolding pairValues
   values-canonical =
       values-below (pair masks lv nv) (cells masks lv nv z f) (same-rows masks lv nv z f)
-      (canonical-cells masks lv nv accepted row next-row z f z-below f-below) table fair-table
+      (canonical-cells masks lv nv (given .accepted) (given .row) (given .next-row) z f (given .z-below) (given .f-below))
+      table
+      fair-table
 
-  -- a pair that keeps every rule folds from zero to zero under every alpha
-  pub folds-under-all : T (pairKeeps masks lv nv (isFirst f) (isLast z)) → (alpha : ℕ) → alpha < p → FoldsToZero masks lv nv z f alpha
+  -- a pair keeps every rule exactly when its values are 0
+  pub keeps-iff-zeros : KeepsEveryRule masks lv nv z f ↔ All (λ v. v ≡ 0) (pairValues masks lv nv z f)
+  keeps-iff-zeros =
+      let g = given in
+      let i = rules-iff-values masks lv nv z f (g .accepted) (g .row) (g .next-row) (g .plain) (g .z-below) (g .f-below) in
+      (λ k. i .0 (of-true _ k), λ zs. true-of _ (i .1 zs))
+
+  -- a pair that keeps every rule folds from zero to zero under every alpha, and so under more than 225, as 0 to 225
+  folds-under-all : KeepsEveryRule masks lv nv z f → (alpha : ℕ) → alpha < p → FoldsToZero masks lv nv z f alpha
   folds-under-all k alpha h = (
     not-refused alpha h,
-    folded alpha h
-        ∙ ap (λ (a : ℕ). a ∷ []) (zeros-fold alpha (pairValues masks lv nv z f) (values-of-rules masks lv nv z f accepted row next-row plain z-below f-below k)),
+    folded alpha h ∙ ap (λ (a : ℕ). a ∷ []) (zeros-fold alpha (pairValues masks lv nv z f) (keeps-iff-zeros .0 k)),
   )
 
-  -- and so under more than 225: under 0, 1, .., 225
-  pub many-of-rules : T (pairKeeps masks lv nv (isFirst f) (isLast z)) → Many (FoldsToZero masks lv nv z f)
+  many-of-rules : KeepsEveryRule masks lv nv z f → Many (FoldsToZero masks lv nv z f)
   many-of-rules k =
       record {
         alphas = map (λ n. n) (below 226);
@@ -90,9 +96,9 @@ module _ (masks lv nv : List ℕ) (z f : ℕ) (accepted : Accepted masks) (row :
       }
 
   -- a pair that folds from zero to zero under more than 225 alphas keeps every rule
-  pub rules-of-many : Many (FoldsToZero masks lv nv z f) → T (pairKeeps masks lv nv (isFirst f) (isLast z))
+  rules-of-many : Many (FoldsToZero masks lv nv z f) → KeepsEveryRule masks lv nv z f
   rules-of-many m =
-      rules-of-values masks lv nv z f accepted row next-row plain z-below f-below
+      keeps-iff-zeros .1
       (zero-values (m .alphas) (pairValues masks lv nv z f) (m .below) values-canonical (m .distinct) enough
       (all-both (λ alpha h e. head-is (sym (folded alpha h) ∙ e .1)) (m .alphas) (m .below) (m .each)))
     where
@@ -102,5 +108,10 @@ module _ (masks lv nv : List ℕ) (z f : ℕ) (accepted : Accepted masks) (row :
       enough : length (pairValues masks lv nv z f) ≤ length (m .alphas)
       enough = omega (arith, values-count masks lv nv z f, m .many)
 
-  pub demand-3 : T (pairKeeps masks lv nv (isFirst f) (isLast z)) ↔ Many (FoldsToZero masks lv nv z f)
-  demand-3 = (many-of-rules, rules-of-many)
+-- demand 3
+pub demand-3 : (masks lv nv : List ℕ) (z f : ℕ) → Given masks lv nv z f → Demand3 masks lv nv z f
+demand-3 masks lv nv z f given =
+    record {
+      exactly-when = (many-of-rules masks lv nv z f given, rules-of-many masks lv nv z f given);
+      under-all = λ m. folds-under-all masks lv nv z f given (rules-of-many masks lv nv z f given m);
+    }

@@ -1,7 +1,7 @@
 -- The masks and the rows of document 01's worked pairs.
 use mathlib.Core.Bool.{true}
-use mathlib.Core.List.{List, [], _∷_, map}
-use Prim.Native.Nat.{ℕ, _^_}
+use mathlib.Core.List.{List, [], _∷_, _++_, map}
+use Prim.Native.Nat.{ℕ, zero, suc, _/_, _%_, _^_}
 use lib.ListN.{replicate, set}
 use Rattle.table.specs.Columns.{NUM-CPU-COLS, COL-PC, COL-INST, COL-OP1-IMM, COL-OP0, COL-OP1, COL-S-OP0-START, COL-S-DST-START, COL-S-MLOAD, COL-S-END, COL-S-TLOAD, COL-IS-ENTRY-SC, COL-IS-PADDING}
 use Rattle.table.specs.Masks.{SCCALL}
@@ -40,6 +40,18 @@ lastMask mask = set powers SCCALL mask
 
 abbrev pub lastColumn : ℕ → List ℕ
 lastColumn c = set zeros COL-IS-PADDING c
+
+-- numbers as rowdesk reads them, "each value 8 bytes, low byte first", and the input of the masks and one zero row
+abbrev pub bytesOf : ℕ → ℕ → List ℕ
+bytesOf zero n = []
+bytesOf (suc k) n = n % 256 ∷ bytesOf k (n / 256)
+
+abbrev pub bytesOfAll : List ℕ → List ℕ
+bytesOfAll [] = []
+bytesOfAll (v ∷ vs) = bytesOf 8 v ++ bytesOfAll vs
+
+abbrev pub one-zero-row : List ℕ
+one-zero-row = bytesOfAll powers ++ bytesOfAll zeros
 
 -- rowdesk's state after the masks and n zero rows
 abbrev pub after : ℕ → State

@@ -1,1 +1,1 @@
-// Document 01's worked pairs, proved together: specs/ has the rows that they speak of. There is no code.
+// Document 01's worked pairs, proved together, and pairs that keep every rule: specs/ has the rows and what is said of them. There is no code.

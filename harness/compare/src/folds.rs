@@ -2,7 +2,7 @@
 
 use fields::P;
 use pairs::{Class, Rng};
-use tally::same;
+use tally::{same, With};
 
 use crate::comparison::seeds;
 use crate::faults::{Inputs, LIMITS};
@@ -21,9 +21,9 @@ impl Comparison<'_> {
             let accs = residues(&mut rng, alphas.len());
             let class = format!("folds, {} alphas", alphas.len());
             let call = Call::from(&pair);
-            let outcome = self.fold(call, &alphas, &accs);
+            let (with, outcome) = self.fold(call, &alphas, &accs);
             let told = |difference| format!("seed {seed}: {difference}");
-            self.tally.note(&class, outcome.map_err(told));
+            self.tally.note(&class, with, outcome.map_err(told));
         }
     }
 
@@ -35,8 +35,8 @@ impl Comparison<'_> {
             for accs in 0..=MANY {
                 let pair = Class::any(&mut rng);
                 let (alphas, accs) = (residues(&mut rng, alphas), residues(&mut rng, accs));
-                let outcome = self.fold(Call::from(&pair), &alphas, &accs);
-                self.tally.note("alpha counts", outcome);
+                let (with, outcome) = self.fold(Call::from(&pair), &alphas, &accs);
+                self.tally.note("alpha counts", with, outcome);
             }
         }
         for word in LIMITS {
@@ -54,12 +54,12 @@ impl Comparison<'_> {
                 let pair = Class::any(rng);
                 let (mut alphas, mut accs) = (residues(rng, count), residues(rng, count));
                 alphas[place] = word;
-                let outcome = self.fold(Call::from(&pair), &alphas, &accs);
-                self.tally.note("alphas", outcome);
+                let (with, outcome) = self.fold(Call::from(&pair), &alphas, &accs);
+                self.tally.note("alphas", with, outcome);
                 alphas[place] = 0;
                 accs[place] = word;
-                let outcome = self.fold(Call::from(&pair), &alphas, &accs);
-                self.tally.note("accumulators", outcome);
+                let (with, outcome) = self.fold(Call::from(&pair), &alphas, &accs);
+                self.tally.note("accumulators", with, outcome);
             }
         }
     }
@@ -75,21 +75,22 @@ impl Comparison<'_> {
                 alphas[rng.below(3)] = P;
             }
             let accs = residues(rng, if set >> 7 == 1 { 2 } else { 3 });
-            let outcome = self.fold(inputs.call(), &alphas, &accs);
-            self.tally.note("sets of faults, folded", outcome);
+            let (with, outcome) = self.fold(inputs.call(), &alphas, &accs);
+            self.tally.note("sets of faults, folded", with, outcome);
         }
     }
 
-    /// Compares one fold, of which a refused call may alter nothing.
-    fn fold(&self, call: Call, alphas: &[u64], accs: &[u64]) -> Result<(), String> {
+    /// Compares one fold, of which a refused call may alter nothing, and says with what.
+    fn fold(&self, call: Call, alphas: &[u64], accs: &[u64]) -> (With, Result<(), String>) {
         let due = match model::pair_fold(self.rust, call, alphas, accs) {
             Ok(folded) => (0, folded),
             Err(number) => (number, accs.to_vec()),
         };
         let mut found = accs.to_vec();
         let number = self.entries.pair_fold(call, alphas, &mut found);
-        same((number, found), due)
-            .map_err(|difference| format!("{difference}\n{call:?}\n{alphas:?}\n{accs:?}"))
+        let with = With::answer(due.0);
+        let told = |difference| format!("{difference}\n{call:?}\n{alphas:?}\n{accs:?}");
+        (with, same((number, found), due).map_err(told))
     }
 }
 

@@ -2,7 +2,7 @@
 
 use pairs::kinds::Kind;
 use pairs::{Class, Rng};
-use tally::same;
+use tally::{same, With};
 
 use crate::comparison::seeds;
 use crate::{model, Call, Comparison, FelmugoVerdict};
@@ -39,12 +39,14 @@ impl Comparison<'_> {
             let outcome = same(self.entries.pair_judge(call), expected)
                 .map_err(|difference| format!("seed {seed}: {difference}\n{call:?}"));
             let class = format!("judged, {}, {}", name(expected), place(call));
-            self.tally.note(&class, outcome);
+            let with = With::answer(expected.number);
+            self.tally.note(&class, with, outcome);
         }
         if count >= 20_000 {
             for (kind, shares) in Kind::ALL.iter().zip(shares) {
                 let outcome = shares.are_healthy(*kind);
-                self.tally.note("both verdicts, every kind", outcome);
+                self.tally
+                    .note("both verdicts, every kind", With::TheHarness, outcome);
             }
         }
     }

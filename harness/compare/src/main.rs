@@ -4,6 +4,7 @@ use std::process::ExitCode;
 
 use compare::{Amounts, Comparison, Linked};
 use olavm::{Reference, SOURCE_MISSING};
+use tally::NOT_COMPARED;
 
 /// What a short comparison compares, and the first seed of both.
 const SHORT: Amounts = Amounts {
@@ -23,7 +24,7 @@ fn main() -> ExitCode {
         return ExitCode::from(2);
     };
     let Some(rust) = Reference::find() else {
-        println!("{SOURCE_MISSING}");
+        println!("{NOT_COMPARED}{SOURCE_MISSING}");
         return ExitCode::SUCCESS;
     };
 
@@ -33,6 +34,7 @@ fn main() -> ExitCode {
     );
     let tally = Comparison::everything(&Linked, rust, seed, amounts);
     println!("{tally}");
+    println!("{}", tally.told("answers of functions"));
     tally.status()
 }
 

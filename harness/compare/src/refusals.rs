@@ -2,7 +2,7 @@
 
 use olavm::{COLUMNS, MASKS, VALUES};
 use pairs::{Class, Rng};
-use tally::same;
+use tally::{same, With};
 
 use crate::faults::{Inputs, LIMITS, NUMBERS};
 use crate::{calls, model, Comparison};
@@ -59,10 +59,12 @@ impl Comparison<'_> {
         let told = |difference| format!("{difference}\n{inputs:?}");
         let expected = model::pair_values(self.rust, call, buffer);
         let outcome = calls::compare(self.entries, call, &expected, buffer, rng);
-        self.tally.note(class, outcome.map_err(told));
+        let with = With::answer(expected.err().unwrap_or(0));
+        self.tally.note(class, with, outcome.map_err(told));
         let expected = model::pair_judge(self.rust, call);
         let outcome = same(self.entries.pair_judge(call), expected);
         let class = format!("{class}, judged");
-        self.tally.note(&class, outcome.map_err(told));
+        let with = With::answer(expected.number);
+        self.tally.note(&class, with, outcome.map_err(told));
     }
 }

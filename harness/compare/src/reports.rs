@@ -3,7 +3,7 @@
 use fields::{Plain, Plonky2Style, Residue, P};
 use olavm::{COLUMNS, MASKS};
 use pairs::{Rng, Run, MAX_ROWS};
-use tally::same;
+use tally::{same, With};
 
 use crate::comparison::seeds;
 use crate::faults::{not_canonical, spoil_masks, LIMITS, MASK_COUNTS};
@@ -33,7 +33,8 @@ impl Comparison<'_> {
             let found = self.report_over::<Plonky2Style>(&class, &run);
             failing += u64::from(found > 0);
             if !is_damaged {
-                self.tally.note("runs, kept as meant", same(found, 0));
+                self.tally
+                    .note("runs, kept as meant", With::TheHarness, same(found, 0));
             }
         }
         if count >= 100 {
@@ -41,7 +42,8 @@ impl Comparison<'_> {
             let outcome = (failing >= count / LEAST_SHARE)
                 .then_some(())
                 .ok_or_else(told);
-            self.tally.note("runs, both reports", outcome);
+            self.tally
+                .note("runs, both reports", With::TheHarness, outcome);
         }
     }
 
@@ -113,7 +115,8 @@ impl Comparison<'_> {
         let mut rng = Rng::new(seed);
         let mut run = Run::draw(&mut rng, MAX_ROWS);
         let found = self.report_over::<Plonky2Style>(class, &run);
-        self.tally.note("runs, kept as meant", same(found, 0));
+        self.tally
+            .note("runs, kept as meant", With::TheHarness, same(found, 0));
         let column = rng.below(COLUMNS);
         run.rows[MAX_ROWS - 1][column] = P - 1;
         self.report_over::<Plonky2Style>(class, &run);
@@ -143,7 +146,8 @@ impl Comparison<'_> {
         let expected = model::run_report::<F>(self.rust, run, masks);
         let outcome = same(self.entries.run_report(run, masks), expected);
         let told = |difference| format!("{difference}, {} values", run.len());
-        self.tally.note(class, outcome.map_err(told));
+        let with = With::answer(expected.number);
+        self.tally.note(class, with, outcome.map_err(told));
         expected.failing
     }
 }

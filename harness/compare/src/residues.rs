@@ -2,7 +2,7 @@
 
 use fields::P;
 use pairs::Rng;
-use tally::same;
+use tally::{same, With};
 
 use crate::model::{self, Operation};
 use crate::{Comparison, FelmugoResidue};
@@ -49,7 +49,9 @@ impl Comparison<'_> {
         let mut compare_one = |sign: &str, ours: FelmugoResidue, meant: Operation| {
             let outcome = same(ours, model::operation(a, b, meant));
             let told = |difference| format!("{a} {sign} {b}: {difference}");
-            self.tally.note("residue operations", outcome.map_err(told));
+            let outcome = outcome.map_err(told);
+            self.tally
+                .note("residue operations", With::TheHarness, outcome);
         };
         compare_one("+", self.entries.add(a, b), |a, b| a + b);
         compare_one("-", self.entries.sub(a, b), |a, b| a - b);

@@ -2,6 +2,7 @@
 
 use olavm::{Values, VALUES};
 use pairs::{Class, Rng};
+use tally::With;
 
 use crate::comparison::seeds;
 use crate::{calls, model, Call, Comparison};
@@ -22,7 +23,8 @@ impl Comparison<'_> {
             let outcome = is_kept_as_meant(class, &expected)
                 .and_then(|()| calls::compare(self.entries, call, &expected, buffer, &mut rng))
                 .map_err(|difference| format!("seed {seed}: {difference}\n{call:?}"));
-            self.tally.note(&format!("pairs, {class}"), outcome);
+            let with = With::answer(expected.err().unwrap_or(0));
+            self.tally.note(&format!("pairs, {class}"), with, outcome);
         }
     }
 }

@@ -18,8 +18,4 @@ pub use pair::{Masks, Pair, Row, Values, COLUMNS, MASKS, VALUES};
 pub use reference::Reference;
 
 /// What a program says where [`Reference::find`] finds nothing.
-pub const SOURCE_MISSING: &str = concat!(
-    "the Rust source is not at ",
-    env!("OLAVM_SOURCE"),
-    ": nothing was compared"
-);
+pub const SOURCE_MISSING: &str = concat!("the Rust's files are not at ", env!("OLAVM_SOURCE"));

@@ -3,10 +3,10 @@
 use fields::{Plain, Plonky2Style, Residue, P};
 use olavm::{Reference, COLUMNS};
 use pairs::{Rng, Run, MAX_ROWS};
-use tally::{same, Tally};
+use tally::{same, Tally, With};
 
 use crate::cases::{self, Case};
-use crate::due;
+use crate::due::{self, Pieces};
 use crate::expected;
 use crate::input::{of_run, MASK_BYTES, ROW_BYTES};
 use crate::program::{Chunks, Program};
@@ -34,19 +34,15 @@ pub struct Amounts {
 }
 
 /// A comparison under way.
-struct Comparison<'a> {
-    program: &'a Program,
-    rust: Reference,
-    tally: Tally,
+pub(crate) struct Comparison<'a> {
+    pub(crate) program: &'a Program,
+    rust: Option<Reference>,
+    pub(crate) tally: Tally,
 }
 
 /// Compares everything; each random input follows from its seed, and the seeds from the first.
 pub fn everything(program: &Program, rust: Reference, seed: u64, amounts: Amounts) -> Tally {
-    let mut comparison = Comparison {
-        program,
-        rust,
-        tally: Tally::default(),
-    };
+    let mut comparison = Comparison::new(program, Some(rust));
     for case in cases::fixed() {
         comparison.case::<Plain>("fixed inputs", &case, Chunks::Whole);
     }
@@ -56,19 +52,57 @@ pub fn everything(program: &Program, rust: Reference, seed: u64, amounts: Amount
     }
     comparison.chunks();
     comparison.due(seed);
+    comparison.failures(seed);
     if amounts.limits {
         comparison.limits(seed);
     }
     comparison.tally
 }
 
-impl Comparison<'_> {
+/// Compares what can be compared without the Rust: when lines are there, and what is done where reads
+/// and writes fail, with what the program prints for the same input undisturbed.
+pub fn alone(program: &Program, seed: u64) -> Tally {
+    let mut comparison = Comparison::new(program, None);
+    comparison.due(seed);
+    comparison.failures(seed);
+    comparison.tally
+}
+
+impl<'a> Comparison<'a> {
+    fn new(program: &'a Program, rust: Option<Reference>) -> Self {
+        Self {
+            program,
+            rust,
+            tally: Tally::default(),
+        }
+    }
+
+    /// The output that is due for an input; without the Rust, the program's own.
+    pub(crate) fn output<F: Residue>(&self, input: &[u8]) -> String {
+        match self.rust {
+            Some(rust) => expected::output::<F>(rust, input),
+            None => self
+                .program
+                .output(input, Chunks::Whole)
+                .unwrap_or_else(|error| error),
+        }
+    }
+
+    /// What an output is compared with: the lines of pairs are made of the Rust's values.
+    pub(crate) fn with(&self, due: &str) -> With {
+        match self.rust {
+            Some(_) if due.starts_with(|c: char| c.is_ascii_digit()) => With::TheRust,
+            _ => With::TheHarness,
+        }
+    }
+
     fn case<F: Residue>(&mut self, class: &str, case: &Case, chunks: Chunks) {
-        let due = expected::output::<F>(self.rust, &case.input);
+        let due = self.output::<F>(&case.input);
         let output = self.program.output(&case.input, chunks);
         let outcome = output.and_then(|output| same_lines(&output, &due));
         let told = |difference| format!("{}, {chunks:?}: {difference}", case.name);
-        self.tally.note(class, outcome.map_err(told));
+        self.tally
+            .note(class, self.with(&due), outcome.map_err(told));
     }
 
     /// Inputs that a pipe delivers in odd sizes.
@@ -83,15 +117,21 @@ impl Comparison<'_> {
     /// Lines that are there when they are due.
     fn due(&mut self, seed: u64) {
         let mut rng = Rng::new(seed);
-        for rows in [1, 2, 3, 40, 200] {
-            let mut run = Run::draw(&mut rng, rows);
-            run.damage(&mut rng);
-            let outcome = due::of_pairs(self.program, self.rust, &run);
-            let is_late = outcome.is_err();
-            self.tally.note("lines when due", outcome);
-            // There is no need to wait for another.
-            if is_late {
-                return;
+        for pieces in [Pieces::Rows, Pieces::Halves, Pieces::TwoAndAHalf] {
+            for rows in pieces.runs() {
+                let mut run = Run::draw(&mut rng, *rows);
+                run.damage(&mut rng);
+                let input = of_run(&run);
+                let due = self.output::<Plain>(&input);
+                let outcome = due::of_pairs(self.program, &input, &due, pieces);
+                let is_late = outcome.is_err();
+                let told = |difference| format!("{rows} rows, {pieces:?}: {difference}");
+                self.tally
+                    .note("lines when due", self.with(&due), outcome.map_err(told));
+                // There is no need to wait for another.
+                if is_late {
+                    return;
+                }
             }
         }
         let mut run = Run::draw(&mut rng, 3);
@@ -100,8 +140,10 @@ impl Comparison<'_> {
         run.masks[0] = P;
         let bad_masks = &of_run(&run)[..MASK_BYTES];
         for input in [&bad_row[..], bad_masks] {
-            let outcome = due::of_refusal(self.program, self.rust, input);
-            self.tally.note("refusals when due", outcome);
+            let due = self.output::<Plain>(input);
+            let outcome = due::of_refusal(self.program, input, &due);
+            self.tally
+                .note("refusals when due", With::TheHarness, outcome);
         }
     }
 
@@ -134,7 +176,7 @@ impl Comparison<'_> {
 }
 
 /// Whether two outputs are the same to the byte; the difference names the first other line.
-fn same_lines(output: &str, due: &str) -> Result<(), String> {
+pub(crate) fn same_lines(output: &str, due: &str) -> Result<(), String> {
     if output == due {
         return Ok(());
     }

@@ -1,41 +1,96 @@
 //! Whether lines are there when they are due, while the input goes on.
 
-use fields::Plain;
-use olavm::Reference;
-use pairs::Run;
-
-use crate::expected;
-use crate::input::{bytes, of_run};
+use crate::input::{MASK_BYTES, ROW_BYTES, VALUE_BYTES};
 use crate::program::Program;
 use crate::session::Session;
 
-/// Sends a run row by row: pair i's line must be there before row i + 2 is sent, and the last
-/// pair's at the end of the input, not earlier.
-pub fn of_pairs(program: &Program, rust: Reference, run: &Run) -> Result<(), String> {
-    let output = expected::output::<Plain>(rust, &of_run(run));
-    let mut due = output.split_inclusive('\n');
-    let mut session = program.start()?;
-    session.send(&bytes(&run.masks))?;
-    for (i, row) in run.rows.iter().enumerate() {
-        let (head, tail) = row.split_at(i % row.len());
-        session.send(&bytes(head))?;
-        session.send(&bytes(tail))?;
-        if i > 0 {
-            expect(&session, due.next())?;
+/// The pieces in which a run arrives.
+#[derive(Clone, Copy, Debug)]
+pub enum Pieces {
+    /// The masks, then row by row, each in two parts at once.
+    Rows,
+    /// The masks, then each row in two halves, with a pause between them.
+    Halves,
+    /// The masks, then two rows and a half at once, and so on.
+    TwoAndAHalf,
+}
+
+impl Pieces {
+    /// The lengths of the runs that are sent so.
+    pub fn runs(self) -> &'static [usize] {
+        match self {
+            Self::Rows => &[1, 2, 3, 40, 200],
+            Self::Halves => &[1, 6],
+            Self::TwoAndAHalf => &[2, 11],
         }
     }
-    if let Some(line) = session.early_line() {
-        return Err(format!("{line:?} is there before the end of the input"));
+
+    /// Where the pieces of an input of so many bytes end.
+    fn ends(self, length: usize) -> Vec<usize> {
+        let step = match self {
+            Self::Rows => ROW_BYTES,
+            Self::Halves => ROW_BYTES / 2,
+            Self::TwoAndAHalf => 5 * ROW_BYTES / 2,
+        };
+        let mut ends: Vec<usize> = (MASK_BYTES..length).step_by(step).collect();
+        if let Self::Rows = self {
+            let parts = ends.iter().enumerate();
+            let parts: Vec<usize> = parts
+                .map(|(i, at)| at + i * VALUE_BYTES % ROW_BYTES)
+                .collect();
+            ends.extend(parts);
+        }
+        ends.push(length);
+        ends.sort_unstable();
+        ends
     }
+
+    /// Whether a pause shows that no line comes before its row is whole.
+    fn has_pauses(self) -> bool {
+        !matches!(self, Self::Rows)
+    }
+}
+
+/// Sends a run piece by piece: the lines of the pairs whose rows have arrived must be there before the
+/// next piece is sent, and the last pair's at the end of the input, not earlier.
+pub fn of_pairs(
+    program: &Program,
+    input: &[u8],
+    output: &str,
+    pieces: Pieces,
+) -> Result<(), String> {
+    let mut due = output.split_inclusive('\n');
+    let mut session = program.start()?;
+    let (mut sent, mut printed) = (0, 0);
+    for end in pieces.ends(input.len()) {
+        session.send(&input[sent..end])?;
+        sent = end;
+        let rows = sent.saturating_sub(MASK_BYTES) / ROW_BYTES;
+        while printed + 1 < rows {
+            expect(&session, due.next())?;
+            printed += 1;
+        }
+        if pieces.has_pauses() {
+            is_silent(&session)?;
+        }
+    }
+    is_silent(&session)?;
     session.close();
     expect(&session, due.next())?;
     expect(&session, None)?;
     session.end()
 }
 
+/// No line is there before it is due.
+fn is_silent(session: &Session) -> Result<(), String> {
+    match session.early_line() {
+        Some(line) => Err(format!("{line:?} is there too early")),
+        None => Ok(()),
+    }
+}
+
 /// Sends an input that is refused, and leaves standard input open: the program must say so and end.
-pub fn of_refusal(program: &Program, rust: Reference, input: &[u8]) -> Result<(), String> {
-    let output = expected::output::<Plain>(rust, input);
+pub fn of_refusal(program: &Program, input: &[u8], output: &str) -> Result<(), String> {
     let mut session = program.start()?;
     session.send(input)?;
     for line in output.split_inclusive('\n') {

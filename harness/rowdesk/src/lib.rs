@@ -5,6 +5,7 @@ pub mod comparison;
 pub mod container;
 mod due;
 pub mod expected;
+pub mod failures;
 pub mod input;
 pub mod plain;
 mod program;

@@ -6,8 +6,9 @@ use std::path::Path;
 use std::process::ExitCode;
 
 use olavm::{Reference, SOURCE_MISSING};
-use rowdesk::comparison::{everything, Amounts};
+use rowdesk::comparison::{alone, everything, Amounts};
 use rowdesk::{built, container, samples, Program};
+use tally::NOT_COMPARED;
 
 /// What a short comparison compares, and the first seed.
 const SHORT: Amounts = Amounts {
@@ -20,16 +21,28 @@ const SEED: u64 = 0;
 const USAGE: &str = "usage: rowdesk short | long N [SEED] | cases | samples FOLDER";
 
 fn main() -> ExitCode {
-    let Some(rust) = Reference::find() else {
-        eprintln!("{SOURCE_MISSING}");
-        return ExitCode::SUCCESS;
-    };
     let arguments: Vec<String> = std::env::args().skip(1).collect();
     let arguments: Vec<&str> = arguments.iter().map(String::as_str).collect();
-    run(rust, &arguments).unwrap_or_else(|| {
+    let status = match Reference::find() {
+        Some(rust) => run(rust, &arguments),
+        None => run_alone(&arguments),
+    };
+    status.unwrap_or_else(|| {
         eprintln!("{USAGE}");
         ExitCode::from(2)
     })
+}
+
+/// Does what can be done of what the arguments say without the Rust.
+fn run_alone(arguments: &[&str]) -> Option<ExitCode> {
+    match arguments {
+        ["short"] | ["long", _] | ["long", _, _] => Some(compare_alone()),
+        ["cases"] | ["samples", _] => {
+            eprintln!("{SOURCE_MISSING}");
+            Some(ExitCode::SUCCESS)
+        }
+        _ => None,
+    }
 }
 
 /// Does what the arguments say, if they say something.
@@ -55,17 +68,37 @@ fn long(inputs: &str) -> Option<Amounts> {
     })
 }
 
-/// Compares the program that `rt` builds.
-fn compare(rust: Reference, seed: u64, amounts: Amounts) -> ExitCode {
+/// The program that `rt` builds; without it nothing is compared.
+fn program() -> Result<Program, ExitCode> {
     let path = built();
-    if !path.is_file() {
-        println!("{} is not built: nothing was compared", path.display());
-        return ExitCode::FAILURE;
+    if path.is_file() {
+        return Ok(Program::at(path));
     }
+    println!("{NOT_COMPARED}{} is not built", path.display());
+    Err(ExitCode::FAILURE)
+}
+
+fn compare(rust: Reference, seed: u64, amounts: Amounts) -> ExitCode {
+    let program = match program() {
+        Ok(program) => program,
+        Err(status) => return status,
+    };
     println!("seed {seed}, {} random inputs", amounts.inputs);
-    let tally = everything(&Program::at(path), rust, seed, amounts);
+    let tally = everything(&program, rust, seed, amounts);
     println!("{tally}");
+    println!("{}", tally.told("runs of rowdesk"));
     tally.status()
+}
+
+fn compare_alone() -> ExitCode {
+    let program = match program() {
+        Ok(program) => program,
+        Err(status) => return status,
+    };
+    let tally = alone(&program, SEED);
+    println!("{tally}");
+    println!("{NOT_COMPARED}{SOURCE_MISSING}");
+    ExitCode::from((tally.failed() > 0) as u8)
 }
 
 fn status(written: io::Result<()>) -> ExitCode {

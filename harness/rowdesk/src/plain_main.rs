@@ -4,15 +4,13 @@ use std::io;
 
 use olavm::{Reference, SOURCE_MISSING};
 
-fn main() -> io::Result<()> {
+fn main() {
     let Some(rust) = Reference::find() else {
         eprintln!("{SOURCE_MISSING}");
-        return Ok(());
+        return;
     };
     // Standard output writes a line at its end.
-    match rowdesk::plain::run(rust, io::stdin().lock(), io::stdout().lock()) {
-        // Nobody reads on.
-        Err(error) if error.kind() == io::ErrorKind::BrokenPipe => Ok(()),
-        outcome => outcome,
+    if let Err(failure) = rowdesk::plain::run(rust, io::stdin().lock(), io::stdout().lock()) {
+        eprint!("{failure}");
     }
 }

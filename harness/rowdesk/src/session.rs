@@ -1,6 +1,7 @@
 //! A program under way, fed and read piece by piece.
 
-use std::io::{self, BufRead, BufReader, Write};
+use std::io::{self, BufRead, BufReader, Read, Write};
+use std::os::unix::process::ExitStatusExt;
 use std::process::{Child, ChildStdin, Command, Stdio};
 use std::sync::mpsc::{self, Receiver, RecvTimeoutError};
 use std::thread;
@@ -11,35 +12,39 @@ pub struct Session {
     child: Child,
     input: Option<ChildStdin>,
     lines: Receiver<String>,
+    errors: Receiver<String>,
     patience: Duration,
 }
 
+/// How a program ended.
+#[derive(Clone, Debug, Default, PartialEq, Eq)]
+pub struct Ended {
+    /// What it wrote to standard error.
+    pub errors: String,
+    /// The signal that ended it, if it was one.
+    pub signal: Option<i32>,
+}
+
 impl Session {
-    /// Starts a program, of which a line that is due may take so long.
-    pub fn start(mut command: Command, patience: Duration) -> Result<Self, String> {
+    /// Starts a program, of which a line that is due may take so long. What of its standard input and
+    /// output is given is not the session's.
+    pub fn start(
+        mut command: Command,
+        input: Option<Stdio>,
+        output: Option<Stdio>,
+        patience: Duration,
+    ) -> Result<Self, String> {
         let mut child = command
-            .stdin(Stdio::piped())
-            .stdout(Stdio::piped())
+            .stdin(input.unwrap_or_else(Stdio::piped))
+            .stdout(output.unwrap_or_else(Stdio::piped))
+            .stderr(Stdio::piped())
             .spawn()
             .map_err(|error| format!("{command:?}: {error}"))?;
-        let input = child.stdin.take();
-        let output = child.stdout.take().expect("standard output is piped");
-        let (sender, lines) = mpsc::channel();
-        thread::spawn(move || {
-            let mut output = BufReader::new(output);
-            let mut line = Vec::new();
-            while output.read_until(b'\n', &mut line).is_ok_and(|n| n > 0) {
-                let text = String::from_utf8_lossy(&line).into_owned();
-                line.clear();
-                if sender.send(text).is_err() {
-                    break;
-                }
-            }
-        });
         Ok(Self {
+            input: child.stdin.take(),
+            lines: lines(child.stdout.take()),
+            errors: errors(child.stderr.take()),
             child,
-            input,
-            lines,
             patience,
         })
     }
@@ -77,13 +82,23 @@ impl Session {
         self.lines.recv_timeout(Duration::from_millis(20)).ok()
     }
 
-    /// Waits for its end, which must be its own.
-    pub fn end(mut self) -> Result<(), String> {
-        let status = self.child.wait().map_err(|error| error.to_string())?;
-        match status.code() {
-            Some(_) => Ok(()),
-            None => Err(format!("ended by a signal: {status}")),
+    /// Waits for its end, which must be its own and with nothing on standard error.
+    pub fn end(self) -> Result<(), String> {
+        match self.ended()? {
+            Ended { errors, signal } if errors.is_empty() && signal.is_none() => Ok(()),
+            ended => Err(format!("{ended:?}")),
         }
+    }
+
+    /// Waits for its end.
+    pub fn ended(mut self) -> Result<Ended, String> {
+        let errors = self.errors.recv_timeout(self.patience);
+        let errors = errors.map_err(|_| "the program does not end".to_owned())?;
+        let status = self.child.wait().map_err(|error| error.to_string())?;
+        Ok(Ended {
+            errors,
+            signal: status.signal(),
+        })
     }
 }
 
@@ -93,4 +108,36 @@ impl Drop for Session {
         let _ = self.child.kill();
         let _ = self.child.wait();
     }
+}
+
+/// The lines of an output, if there is one, each as soon as it is there.
+fn lines(output: Option<impl Read + Send + 'static>) -> Receiver<String> {
+    let (sender, lines) = mpsc::channel();
+    let Some(output) = output else {
+        return lines;
+    };
+    thread::spawn(move || {
+        let mut output = BufReader::new(output);
+        let mut line = Vec::new();
+        while output.read_until(b'\n', &mut line).is_ok_and(|n| n > 0) {
+            let text = String::from_utf8_lossy(&line).into_owned();
+            line.clear();
+            if sender.send(text).is_err() {
+                break;
+            }
+        }
+    });
+    lines
+}
+
+/// All of standard error, when it ends.
+fn errors(output: Option<impl Read + Send + 'static>) -> Receiver<String> {
+    let (sender, errors) = mpsc::channel();
+    let mut output = output.expect("standard error is piped");
+    thread::spawn(move || {
+        let mut bytes = Vec::new();
+        let _ = output.read_to_end(&mut bytes);
+        let _ = sender.send(String::from_utf8_lossy(&bytes).into_owned());
+    });
+    errors
 }

@@ -12,7 +12,9 @@ returns : tie.Need-returns
 returns c = refused _ _ _ (c .before .refusal .ensures) (c .if1 .taken)
 
 sub-requires : tie.Need-sub-requires
-sub-requires c κs = below _ _ (sym (c .before .refusal .ensures) ∙ c .if1 .left)
+sub-requires c κs =
+    let asked = below _ _ (sym (c .before .refusal .ensures) ∙ c .if1 .left) in
+    record { left = search; right = search }
 
 returns-2 : tie.Need-returns-2
 returns-2 c = given _ _ _ (sym (c .before .before .refusal .ensures) ∙ c .before .if1 .left) (c .sub .ensures .0)

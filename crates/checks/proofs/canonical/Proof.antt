@@ -2,15 +2,14 @@
 use mathlib.Core.Bool.{_&&_}
 use mathlib.Core.List.{List}
 use Prim.Native.Nat.{ℕ, _+_, _≤_, _-_}
-use native.Mathlib.Nat.{le-of-eq}
 use mathlib.Core.Path.{_≡_, refl, sym, ap, _∙_}
 use native.Mathlib.Omega.{arith}
 use borrow.Author.Needs.{needs}
 use borrow.Author.Tests.{lt-ltb, le-ltb}
-use lib.ListN.{length, getD, drop, length-drop}
-use lib.Seq.{take-all}
+use lib.ListN.{length, getD, drop}
 use lib.Dec.{ltb}
 use Rattle.algebra.specs.Prime.{p}
+use Rattle.algebra.proofs.Slices.{to-end}
 use Rattle.refusals.specs.Refusal.{canonical}
 use Rattle.checks.proofs.Laws.{canonical-four}
 use Rattle.checks.proofs.canonical.Statement.{statement}
@@ -66,7 +65,7 @@ returns-5 : tie.Need-returns-5 Inv-loop μ-loop
 returns-5 c =
     let l = c .before .before .before in
     let vs = numbers l in
-    c .canonical-each .ensures ∙ ap canonical (take-all (length vs - l .loop .i) (drop (l .loop .i) vs) (le-of-eq (length-drop (l .loop .i) vs))) ∙ sym (l .loop .inv .2)
+    c .canonical-each .ensures ∙ ap canonical (to-end (l .loop .i) vs) ∙ sym (l .loop .inv .2)
 
 pub canonical-spec : {M : Type 1} → statement M
 canonical-spec =

@@ -4,7 +4,6 @@ use denote.Ref.{now}
 use Rattle.table.specs.Rows.{Row}
 use Rattle.table.proofs.Called.{exprs}
 use Rattle.table.proofs.Rows.{places}
-use Rattle.cpu_factors.specs.Factors.{factors}
 use Rattle.cpu_factors.proofs.factors.Statement.{statement}
 use Rattle.cpu_factors.proofs.factors.Tie as tie
 
@@ -12,8 +11,7 @@ local-row : (c : tie.Start) → Row (now (c .args .lv))
 local-row c = c .pre
 
 returns : tie.Need-returns
-unfolding factors
-returns c = sym (search exprs depth 100 fits 100000)
+returns c = record { are = sym (search exprs depth 100 fits 100000) }
 
 pub factors-spec : {M : Type 1} → statement M
 factors-spec = tie.close (search (tie.spec, returns, places, local-row))

@@ -4,7 +4,7 @@ use Rattle.ffi.proofs.felmugo_pair_values.Statement.{statement}
 use Rattle.ffi.proofs.felmugo_pair_values.Tie as tie
 
 returns : tie.Need-returns
-returns c = c .before .before .pair-values .ensures
+returns c = c .before .before .adjacent-values .ensures
 
 pub felmugo-pair-values-spec : {M : Type 1} → statement M
 felmugo-pair-values-spec = tie.close (tie.spec (λ c κs. search needs) (λ c. search needs) returns)

@@ -10,7 +10,7 @@ use Rattle.judge_flow.proofs.Groups.{groups as flow}
 use Rattle.judge_arithmetic.proofs.Group.{arithmeticOf}
 use Rattle.judge_tape.proofs.Group.{tapeOf}
 use Rattle.judge_call_sc.proofs.Group.{callScOf}
-use Rattle.judge_rules.proofs.Asked.{kindIs, coded, of-kind, kind-said}
+use Rattle.judge_rules.proofs.Asked.{kindIs, coded}
 use Rattle.judge_rules.proofs.Joins.{rulebook-joins}
 use Rattle.judge_rules.proofs.keeps.Statement.{statement}
 use Rattle.judge_rules.proofs.keeps.Tie as tie
@@ -28,4 +28,4 @@ returns : tie.Need-returns
 returns c = sym (rulebook-joins _ _ _ _ _ ∙ search (kindIs, transaction, environment, instruction, flow, arithmeticOf, tapeOf, callScOf, both) depth 100 fits 100000)
 
 pub keeps-spec : {M : Type 1} → statement M
-keeps-spec = tie.close (search (tie.spec, returns, coded, of-kind, kind-said, rows, local-row, masks))
+keeps-spec = tie.close (search (tie.spec, returns, coded, rows, local-row, masks))

@@ -1,23 +1,16 @@
--- `rowdesk::main` meets its contract: every state is sound, and each turn leaves fewer to follow.
+-- `rowdesk::main` meets its contract.
 use borrow.Author.Needs.{needs}
-use Rattle.rowdesk_steps.specs.Sound.{Sound}
-use Rattle.rowdesk_steps.proofs.Onward.{left, left-less}
+use Rattle.rowdesk.proofs.Laws.{fits-bytes}
 use Rattle.rowdesk.proofs.main.Statement.{statement}
 use Rattle.rowdesk.proofs.main.Tie as tie
 
-abbrev Inv-loop : tie.InvT-loop
-Inv-loop state₀ state = Sound state
+array-share-prefix-masks : tie.Need-array-share-prefix-masks
+array-share-prefix-masks c = let n = c .before in fits-bytes _ _ _ (n .n .given .1) (n .before .before .before .read-full .ensures) .0
 
-abbrev μ-loop : tie.MeasureT-loop
-μ-loop state₀ state = left state
-
-loop-less : tie.Need-loop-less Inv-loop μ-loop
-loop-less c = let l = c .before .before .loop in left-less (l .state) (c .turn .result) (l .inv) (c .before .loop-test .taken) (c .turn .ensures)
-
-loop-again : tie.Need-loop-again Inv-loop μ-loop
-loop-again c = c .turn .ensures .sound
+slice-aggregate-begin : tie.Need-slice-aggregate-begin
+slice-aggregate-begin c = let n = c .before .before in fits-bytes _ _ _ (n .n .given .1) (n .before .before .before .read-full .ensures) .1
 
 pub main-spec : {M : Type 1} → statement M
 main-spec =
     tie.close
-    (tie.spec Inv-loop μ-loop (λ c κs. search needs) (λ c. search needs) (λ c κs. search needs) loop-less loop-again (λ c. search needs))
+    (tie.spec (λ c. search needs) (λ c κs. search needs) (λ c. search needs) array-share-prefix-masks slice-aggregate-begin (λ c κs. search needs) (λ c κs. search needs) (λ c. search needs) (λ c. search needs) (λ c. search needs))

@@ -3,7 +3,7 @@ use mathlib.Core.Path.{sym}
 use native.Mathlib.Omega.{arith}
 use lib.Seq.{length-take-le}
 use borrow.Author.Needs.{needs}
-use Rattle.rowdesk_lines.proofs.Laws.{counts}
+use Rattle.io.proofs.Counting.{counts}
 use Rattle.rowdesk_cases.proofs.read_part.Statement.{statement}
 use Rattle.rowdesk_cases.proofs.read_part.Tie as tie
 

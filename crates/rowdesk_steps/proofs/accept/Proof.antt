@@ -1,16 +1,16 @@
 -- `rowdesk_steps::accept` meets its contract.
 use mathlib.Core.Path.{refl}
-use native.Mathlib.Omega.{arith}
 use lib.Dec.{lit<}
 use borrow.Author.Needs.{needs}
 use borrow.Author.Tests.{eq-eqb, ne-eqb}
+use Rattle.text.proofs.Puts.{put-none}
 use Rattle.rowdesk_steps.specs.Model.{acceptOf}
 use Rattle.rowdesk_steps.proofs.accept.Statement.{statement}
 use Rattle.rowdesk_steps.proofs.accept.Tie as tie
 
 returns : tie.Need-returns
 unfolding acceptOf
-returns c = rw (eq-eqb _ _ (c .if1 .taken)) (record { state-is = refl; text-is = refl; counts = (omega arith, refl) })
+returns c = rw (eq-eqb _ _ (c .if1 .taken)) (record { state-is = refl; put = put-none _ _ })
 
 pair-line-requires : tie.Need-pair-line-requires
 pair-line-requires c κs =
@@ -21,8 +21,7 @@ returns-2 : tie.Need-returns-2
 unfolding acceptOf
 returns-2 c =
     let k = c .before .before .before in
-    let p = k .pair-line .ensures in
-    rw (ne-eqb _ _ (k .before .before .before .if1 .left)) (record { state-is = refl; text-is = p .0; counts = p .1 })
+    rw (ne-eqb _ _ (k .before .before .before .if1 .left)) (record { state-is = refl; put = k .pair-line .ensures })
 
 pub accept-spec : {M : Type 1} → statement M
 accept-spec = tie.close (tie.spec returns pair-line-requires (λ c. search needs) (λ c. search needs) returns-2)

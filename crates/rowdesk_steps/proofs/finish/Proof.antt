@@ -16,14 +16,13 @@ returns c =
 pair-line-requires : tie.Need-pair-line-requires
 pair-line-requires c κs =
     let s = c .before .before .before .before .before .before in
-    (s .pre .0, (s .pre .1, (s .pre .1 .first, (lit< tt, search needs))))
+    (s .pre .0, (s .pre .1, (search needs, (lit< tt, search needs))))
 
 returns-2 : tie.Need-returns-2
 unfolding endOf
 returns-2 c =
     let k = c .before .before in
-    let p = k .pair-line .ensures in
-    rw (ne-eqb _ _ (k .before .before .before .before .if1 .left)) (record { state-is = refl; text-is = p .0; counts = p .1 })
+    rw (ne-eqb _ _ (k .before .before .before .before .if1 .left)) (record { state-is = refl; put = k .pair-line .ensures })
 
 pub finish-spec : {M : Type 1} → statement M
 finish-spec = tie.close (tie.spec (λ c κs. search needs) (λ c. search needs) returns pair-line-requires (λ c. search needs) returns-2)

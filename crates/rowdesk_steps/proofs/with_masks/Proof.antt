@@ -1,7 +1,7 @@
 -- `rowdesk_steps::with_masks` meets its contract.
 use mathlib.Core.Path.{refl, sym, _∙_}
-use native.Mathlib.Omega.{arith}
 use borrow.Author.Needs.{needs}
+use Rattle.text.proofs.Puts.{put-none}
 use Rattle.rowdesk_steps.specs.Model.{masksOf}
 use Rattle.rowdesk_steps.proofs.Laws.{refused-blank}
 use Rattle.rowdesk_steps.proofs.with_masks.Statement.{statement}
@@ -20,7 +20,7 @@ unfolding masksOf
 returns-2 c =
     let m = c .before in
     rw (sym (m .mask-contents .ensures) ∙ c .if1 .left, m .before .before .blank .ensures)
-    (record { state-is = refl; text-is = refl; counts = (omega arith, refl) })
+    (record { state-is = refl; put = put-none _ _ })
 
 pub with-masks-spec : {M : Type 1} → statement M
 with-masks-spec =

@@ -1,15 +1,12 @@
 -- `runs::run_report` meets its contract.
-use mathlib.Core.Path.{sym, ap, _∙_}
+use mathlib.Core.Path.{sym, _∙_}
 use borrow.Author.Needs.{needs}
-use Rattle.runs.specs.Report.{refusedBy}
 use Rattle.runs.proofs.Found.{report-refused, report-done}
 use Rattle.runs.proofs.run_report.Statement.{statement}
 use Rattle.runs.proofs.run_report.Tie as tie
 
 returns : tie.Need-returns
-returns c =
-    let e = c .before .run-refusal .ensures in
-    ap refusedBy e ∙ sym (report-refused _ _ (λ h. c .if1 .taken (e ∙ h)))
+returns c = report-refused _ _ _ (c .before .run-refusal .ensures) (c .if1 .taken)
 
 walk-requires : tie.Need-walk-requires
 walk-requires c κs = sym (c .before .run-refusal .ensures) ∙ c .if1 .left

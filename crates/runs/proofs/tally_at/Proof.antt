@@ -10,7 +10,8 @@ pair-tally-requires : tie.Need-pair-tally-requires
 pair-tally-requires c κs =
     let w = c .before .before .before in
     let s = w .before .before .before in
-    last-asks _ _ (s .pre .0) _ _ _ (s .pre .1 .0) (s .pre .1 .1) (w .first-weight .ensures)
+    let asked = last-asks _ _ (s .pre .0) _ _ _ (s .pre .1 .0) (s .pre .1 .1) (w .first-weight .ensures) in
+    (record { local = search; next = search }, (search, (search, search)))
 
 returns : tie.Need-returns
 returns c =

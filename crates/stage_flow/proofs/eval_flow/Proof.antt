@@ -9,6 +9,7 @@ use borrow.Author.Needs.{needs}
 use Rattle.stage_flow.specs.Stage.{flow}
 use Rattle.table.specs.Entry.{values}
 use Rattle.table.specs.CpuStark.{constraint-env-unchanged-clk}
+use Rattle.table.proofs.Shared.{one-shared}
 use Rattle.parts.proofs.Written.{putOf, putNext}
 use Rattle.cpu_flow.proofs.Groups.{groups}
 use Rattle.stage_flow.proofs.Lengths.{lengths}
@@ -21,7 +22,7 @@ room c = omega (arith, c .pre .1 .1)
 
 pc-requires : tie.Need-constraint-env-unchanged-pc-requires
 unfolding values constraint-env-unchanged-clk
-pc-requires c κs = (c .before .before .before .before .before .before .before .before .before .pre .0, ap (λ (l : List ℕ). getD l 0 0) (c .before .before .before .before .before .constraint-env-unchanged-clk .ensures))
+pc-requires c κs = (c .before .before .before .before .before .before .before .before .before .pre .0, one-shared (ap (λ (l : List ℕ). getD l 0 0) (c .before .before .before .before .before .constraint-env-unchanged-clk .ensures)))
 
 returns : tie.Need-returns
 unfolding flow

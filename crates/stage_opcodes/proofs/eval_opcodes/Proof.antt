@@ -19,12 +19,12 @@ room c = omega (arith, c .pre .1 .1 .1)
 tape-requires : tie.Need-eval-packed-generic-requires-2
 tape-requires c κs =
     let s = c .before .before .before .before .before .before .before .before .before .before .before .before .before in
-    (s .pre .0, (record { are = c .before .before .factors .ensures }, omega (arith, s .pre .1 .1 .1, c .before .before .before .before .out .given)))
+    (s .pre .0, (c .before .before .factors .ensures, omega (arith, s .pre .1 .1 .1, c .before .before .before .before .out .given)))
 
 call-sc-requires : tie.Need-eval-packed-generic-requires-3
 call-sc-requires c κs =
     let s = c .before .before .before .before .before .before .before .before .before .before .before .before .before .before .before .before .before .before in
-    (s .pre .0, (s .pre .1 .1 .0, (record { are = c .before .before .before .before .before .before .before .factors .ensures }, omega (arith, s .pre .1 .1 .1, c .before .before .before .before .before .before .before .before .before .out .given, c .before .before .before .out2 .given))))
+    (s .pre .0, (s .pre .1 .1 .0, (c .before .before .before .before .before .before .before .factors .ensures, omega (arith, s .pre .1 .1 .1, c .before .before .before .before .before .before .before .before .before .out .given, c .before .before .before .out2 .given))))
 
 returns : tie.Need-returns
 unfolding opcodes

@@ -6,7 +6,7 @@ use native.Mathlib.Numerals.{add-one}
 use lib.ListN.{length, length-set}
 use lib.Seq.{paste, paste-zero, paste-suc}
 use borrow.Author.Needs.{needs}
-use Rattle.text.proofs.Laws.{put-all}
+use Rattle.text.proofs.Puts.{put-all}
 use Rattle.text.proofs.put.Statement.{statement}
 use Rattle.text.proofs.put.Tie as tie
 
@@ -31,7 +31,7 @@ returns : tie.Need-returns Inv-loop μ-loop
 returns c =
     let l = c .before .loop in
     let h : l .i ≡ length (c .before .before .args .src .now) = omega arith in
-    rw (l .inv .2) (put-all _ _ _ _ (c .before .before .pre) h)
+    rw (l .inv .2) (put-all _ _ _ _ h)
 
 pub put-spec : {M : Type 1} → statement M
 put-spec =

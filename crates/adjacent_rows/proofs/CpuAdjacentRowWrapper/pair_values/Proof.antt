@@ -41,7 +41,7 @@ use denote.Triple.Clauses.{ensured, lasts}
 use denote.Triple.Table.{entered, cited}
 use denote.Triple.Walked.{says, Stays, stay-none, stay-none-slice, gave-slice, walkOf, goes-none, goes-none-slice, goes-gave-slice, Walks, ends-at, walked, walk-meets}
 use denote.Exit.{yes}
-use Rattle.pair_checks.specs.PairValues.{pairValuesRefusal, pairValuesBuffer}
+use Rattle.pair_checks.specs.PairValues.{PairValuesCall}
 use Rattle.pair.proofs.pair_values as core
 use Rattle.pair.proofs.pair_values.Symbol as core-def
 use Rattle.pair.proofs.pair_values.Symbol.{name as #core}
@@ -89,11 +89,8 @@ module _ {M : Type 1} (𝓤 : URA M) (H : Heap 𝓤) (A : Atoms 𝓤) (W : Given
   abbrev at : Vals it.signature κs
   at = (mach ∷ [], (slice m ∷ [], (vint w64 z ∷ [], (vint w64 f ∷ [], (slice x ∷ [], tt)))))
 
-  abbrev Number : ℕ → Type 0
-  Number n = n ≡ pairValuesRefusal (now m) (now (d .lv)) (now (d .nv)) z f (length ys)
-
-  abbrev Buffer : List ℕ → Type 0
-  Buffer zs = zs ≡ pairValuesBuffer (now m) (now (d .lv)) (now (d .nv)) z f ys
+  abbrev Told : ℕ → List ℕ → Type 0
+  Told n zs = PairValuesCall (now m) (now (d .lv)) (now (d .nv)) z f ys n zs
 
   abbrev Post : Val → SProp 𝓤
   Post = walkOf 𝓤 H A it.ended stayed (it.clauses 𝓤 H A mem run) .post ((κs, (q, (q′, (qᵐ, (qᵒ, tt)))), tt, args, at), tt)
@@ -139,11 +136,11 @@ module _ {M : Type 1} (𝓤 : URA M) (H : Heap 𝓤) (A : Atoms 𝓤) (W : Given
       move ! (2 ∷ 1 ∷ []) $ join ! $ move ! (2 ∷ 0 ∷ []) $ join ! $ move ! (1 ∷ 0 ∷ []) $ join ! $
       use2 W (raw (Core 𝓤 H A mem run .pre to)) asked $ frame ! $ frame ! $ drop ! $ done !)
 
-  exits : (n : ℕ) (u : Val) (zs : List ℕ) → Number n → Buffer zs → length zs ≡ length ys
+  exits : (n : ℕ) (u : Val) (zs : List ℕ) → Told n zs → length zs ≡ length ys
       → ent 𝓤 (⋆ 𝓤 H A (‵ (u64 .own n (u ∷ [])) ∷ (‵ (flft κᵐ qᵐ) ⊛ ‵ (flft κ q) ⊛ ‵ (flft κ′ q′) ⊛ ‵ (flft κᵒ qᵒ) ⊛ ‵ ftrue) ∷ ‵ (finally u64 γ zs) ∷ (‵ Masks ⊛ ‵ Own) ∷ [])) (Post u)
-  exits n u zs e e′ l =
+  exits n u zs e l =
       qed W (‵ (u64 .own n (u ∷ [])) ∷ (‵ (flft κᵐ qᵐ) ⊛ ‵ (flft κ q) ⊛ ‵ (flft κ′ q′) ⊛ ‵ (flft κᵒ qᵒ) ⊛ ‵ ftrue) ∷ ‵ (finally u64 γ zs) ∷ (‵ Masks ⊛ ‵ Own) ∷ []) ∵
-      suffices ! _ (ends-at 𝓤 H A it.ended stayed (it.clauses 𝓤 H A mem run) W ((κs, (q, (q′, (qᵐ, (qᵒ, tt)))), tt, args, at), tt) u n (tt, (tt, (tt, (tt, (zs, tt))))) (tt, (tt, (tt, (tt, (l, tt)))))) $ says ! (e, e′) $
+      suffices ! _ (ends-at 𝓤 H A it.ended stayed (it.clauses 𝓤 H A mem run) W ((κs, (q, (q′, (qᵐ, (qᵒ, tt)))), tt, args, at), tt) u n (tt, (tt, (tt, (tt, (zs, tt))))) (tt, (tt, (tt, (tt, (l, tt)))))) $ says ! e $
       move ! (1 ∷ []) $ split ! $ move ! (1 ∷ []) $ split ! $ move ! (1 ∷ []) $ split ! $
       -- [κ′'s; κᵒ's and true; κ's; κᵐ's; the result; the last list; the masks' and the record's]
       move ! (3 ∷ 1 ∷ []) $ join ! $ move ! (1 ∷ 0 ∷ []) $ join ! $ move ! (1 ∷ 0 ∷ []) $ join ! $ frame ! $
@@ -167,8 +164,8 @@ module _ {M : Type 1} (𝓤 : URA M) (H : Heap 𝓤) (A : Atoms 𝓤) (W : Given
         (and-then ! (load ! (from ! (stop !)) (look ! 12 refl)) (and-then ! (load ! (from ! (stop !)) (look ! 2 refl)) (no-more !))))))) (λ u.
         use1 W (later (some (λ (n : ℕ). ((‵ (flft κᵐ qᵐ) ⊛ ‵ (flft κ q) ⊛ ‵ (flft κ′ q′) ⊛ ‵ (flft κᵒ qᵒ) ⊛ ‵ ftrue) ⊛ ‵ (u64 .own n (u ∷ []))) ⊛ raw (ensured 𝓤 H A core.ended (core.clauses 𝓤 H A mem run) κc core-args tt n)))) (id⊢ 𝓤 _) $ await ! tt $ pick ! (λ n.
         -- what the core ensures, at some last list
-        split ! $ move ! (1 ∷ []) $ use1 W (some (λ (zs : Unit {0} × (Unit {0} × (Unit {0} × (Unit {0} × (Unit {0} × (List ℕ × Unit {0})))))). ‵ (lasts core.ended κc core-args zs) ⊛ (raw (fact 𝓤 (Number n)) ⊛ raw (fact 𝓤 (Buffer (zs .1 .1 .1 .1 .1 .0)))))) (id⊢ 𝓤 _) $ pick ! (λ zs.
-        split ! $ move ! (1 ∷ []) $ split ! $ heard ! (Number n) (λ e. heard ! (Buffer (zs .1 .1 .1 .1 .1 .0)) (λ e′.
+        split ! $ move ! (1 ∷ []) $ use1 W (some (λ (zs : Unit {0} × (Unit {0} × (Unit {0} × (Unit {0} × (Unit {0} × (List ℕ × Unit {0})))))). ‵ (lasts core.ended κc core-args zs) ⊛ raw (fact 𝓤 (Told n (zs .1 .1 .1 .1 .1 .0))))) (id⊢ 𝓤 _) $ pick ! (λ zs.
+        split ! $ move ! (1 ∷ []) $ heard ! (Told n (zs .1 .1 .1 .1 .1 .0)) (λ e.
         fsplit ! $ move ! (1 ∷ []) $ fsplit ! $ move ! (1 ∷ []) $ fsplit ! $ move ! (1 ∷ []) $ fsplit ! $ move ! (1 ∷ []) $ fsplit ! $ move ! (1 ∷ []) $ fsplit ! $ fsplit ! $ move ! (1 ∷ []) $ feqL ! (λ l.
         -- [the last list; true; …; …; …; …; …; the tokens and the result; the masks' and the record's; _9; …]
         move ! (7 ∷ []) $ split ! $ move ! (1 ∷ []) $ peeks ! u64 (Is u64) (shows 𝓤 H A u64) n (u ∷ []) (λ is.
@@ -176,7 +173,7 @@ module _ {M : Type 1} (𝓤 : URA M) (H : Heap 𝓤) (A : Atoms 𝓤) (W : Given
         returns ! (look ! 28 refl) $ forget ! 10 refl $ forget ! 12 refl $ forget ! 14 refl $ forget ! 16 refl $ forget ! 18 refl $ forget ! 20 refl $ forget ! 22 refl $ forget ! 24 refl $ forget ! 26 refl $ forget ! 28 refl $
         move ! (28 ∷ 29 ∷ []) $ free1 ! $ move ! (26 ∷ 27 ∷ []) $ free1 ! $ move ! (24 ∷ 25 ∷ []) $ free1 ! $ move ! (22 ∷ 23 ∷ []) $ free1 ! $ move ! (20 ∷ 21 ∷ []) $ free1 ! $
         move ! (18 ∷ 19 ∷ []) $ free1 ! $ move ! (16 ∷ 17 ∷ []) $ free1 ! $ move ! (14 ∷ 15 ∷ []) $ free1 ! $ move ! (12 ∷ 13 ∷ []) $ free1 ! $ move ! (10 ∷ 11 ∷ []) $ free1 ! $ free0 ! $
-        keep ! (0 ∷ 1 ∷ 2 ∷ 9 ∷ []) $ by ! (exits n u (zs .1 .1 .1 .1 .1 .0) e e′ l))))))))))))))))))
+        keep ! (0 ∷ 1 ∷ 2 ∷ 9 ∷ []) $ by ! (exits n u (zs .1 .1 .1 .1 .1 .0) e l)))))))))))))))))
 
 module _ {M : Type 1} (𝓤 : URA M) (H : Heap 𝓤) (A : Atoms 𝓤) (W : Given 𝓤 H A) (mem : Memory → SProp 𝓤) (run : Routine → Fun 𝓤) where
   abbrev rows-of : Lfts 4 → Lfts 2

@@ -13,20 +13,25 @@ use Rattle.edges.proofs.steps.after.Statement.{statement}
 use Rattle.edges.proofs.steps.after.Tie as tie
 
 abbrev Inv-loop : tie.InvT-loop
-Inv-loop n row out₀ state₀ i₀ out state i = (i ≤ n) × (state ≡ after i) × Sound state
+Inv-loop n row state₀ i₀ state i = (i ≤ n) × (state ≡ after i) × Sound state
 
 abbrev μ-loop : tie.MeasureT-loop
-μ-loop n row out₀ state₀ i₀ out state i = n - i
+μ-loop n row state₀ i₀ state i = n - i
 
 loop-holds : tie.Need-loop-holds Inv-loop μ-loop
 loop-holds c = let s = c .before .start in (omega arith, s .ensures .0 .state-is ∙ masks-taken, s .ensures .1)
 
 feed-requires : tie.Need-feed-requires Inv-loop μ-loop
-feed-requires c κs = c .before .before .before .loop .inv .2
+feed-requires c κs = (search needs, c .before .before .before .loop .inv .2)
 
 loop-again : tie.Need-loop-again Inv-loop μ-loop
-loop-again c = let l = c .before .before .before .before .before .loop in let f = c .before .feed in
-    (omega arith, f .ensures .0 .state-is ∙ ap (λ (s : State). feedOf s (replicate rowBytes 0) .state) (l .inv .1) ∙ row-taken (l .i) (omega arith), f .ensures .1 .sound)
+loop-again c =
+    let f = c .before .before in
+    let l = f .before .before .before .before .loop in (
+      omega arith,
+      f .feed .ensures .0 .state-is ∙ ap (λ (s : State). feedOf s (replicate rowBytes 0) .state) (l .inv .1) ∙ row-taken (l .i) (omega arith),
+      f .feed .ensures .1 .sound,
+    )
 
 returns : tie.Need-returns Inv-loop μ-loop
 returns c = let l = c .before .loop in let e : l .i ≡ c .before .before .before .before .before .before .args .n = omega arith in (l .inv .1 ∙ ap after e, l .inv .2)
@@ -34,4 +39,4 @@ returns c = let l = c .before .loop in let e : l .i ≡ c .before .before .befor
 pub after-spec : {M : Type 1} → statement M
 after-spec =
     tie.close
-    (tie.spec Inv-loop μ-loop (λ c. search needs) (λ c κs. search needs) loop-holds (λ c. search needs) feed-requires (λ c. search needs) (λ c. search needs) loop-again returns)
+    (tie.spec Inv-loop μ-loop (λ c. search needs) (λ c κs. search needs) loop-holds (λ c. search needs) (λ c. search needs) feed-requires (λ c. search needs) (λ c. search needs) loop-again returns)

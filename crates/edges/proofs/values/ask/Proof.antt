@@ -11,7 +11,7 @@ use Rattle.edges.proofs.values.ask.Tie as tie
 
 returns : tie.Need-returns
 returns c = let s = c .before .before .before .before .before .before .before .before in let a = s .args in
-    c .before .before .pair-values .ensures .0
+    c .before .before .pair-values .ensures .number
     ∙ ap (λ (n : ℕ). pairValuesRefusal (lastMask (a .mask)) (lastColumn (a .local)) (lastColumn (a .next)) (a .z-last) (a .first) n) (length-take-le (a .room) (replicate 226 0) (s .pre))
 
 pub ask-spec : {M : Type 1} → statement M
