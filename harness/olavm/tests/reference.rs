@@ -1,7 +1,7 @@
 //! The answers of the listed Rust, by the recording lane and by ordinary ones.
 
 use fields::{Plain, Plonky2Style, Residue, P};
-use olavm::{Pair, Reference, COLUMNS, VALUES};
+use olavm::{Pair, Reference, COLUMNS, MASKS, VALUES};
 use pairs::{masks, Class, Rng};
 use plonky2::field::types::Field;
 
@@ -53,6 +53,32 @@ fn the_zero_row_folds_as_worked_out() {
     };
     let folded = rust.fold::<Plain>(&zero_pair(), &[0, 1, 2], &[0, 0, 0]);
     assert_eq!(folded, [0, 0, 18446673700603314177]);
+}
+
+/// The output of the gate's program edge_consumer is what the Rust's consumer leaves.
+#[test]
+fn the_lent_consumer_holds_what_the_rust_folds() {
+    let Some(rust) = Reference::find() else {
+        return;
+    };
+    let mut masks = [0; MASKS];
+    masks[..5].copy_from_slice(&[0, 1, 2, 3, 4]);
+    let pair = Pair {
+        masks,
+        lv: [7; COLUMNS],
+        nv: [11; COLUMNS],
+        z_last: 3,
+        lagrange_basis_first: 2,
+    };
+    let folded = rust.fold::<Plain>(&pair, &[0, 1, P - 2], &[5, 6, P - 1]);
+    let told = ["0 folds 5", "1 folds 6", "p - 2 folds p - 1"];
+    let lines: String = std::iter::zip(told, folded)
+        .map(|(told, acc)| format!("alpha {told} to {acc}, a consumer to {acc}\n"))
+        .collect();
+    assert_eq!(
+        include_str!("../../../crates/edge_consumer/stdout"),
+        format!("three alphas: accepted\n{lines}")
+    );
 }
 
 #[test]
