@@ -13,12 +13,13 @@ use borrow.Table.Row.{Cx}
 use borrow.Table.Typed.{Mo}
 use borrow.Author.Called.{Called}
 use Rattle.algebra.specs.Expr.{con, eval}
+use Rattle.algebra.specs.Lists.{range}
 use Rattle.table.specs.Columns.{REGISTER-NUM, COL-REGS-START as REGS, COL-S-DST-START as S-DST}
 use Rattle.table.specs.Cells.{Cell, cells, lv, nv}
 use Rattle.table.specs.Rows.{Row}
 use Rattle.rulebook.specs.Rule.{Rule, _≐_, deny, _⇒_, holds}
 use Rattle.rulebook.specs.Kind.{ones}
-use Rattle.rulebook.specs.Words.{on, off, off′, kept, bit, every, range}
+use Rattle.rulebook.specs.Words.{on, off, off′, kept, bit, every}
 use Rattle.judge_columns.specs.Group.{Within, Chosen, allUpTo, addresses-kept}
 use Rattle.judge_columns.proofs.Rules.{equalOf, orOf, impliesOf, unlessOf}
 use Rattle.judge_columns.proofs.zeros.Kinds as zeros

@@ -12,8 +12,8 @@ use borrow.Fn.Args.{ArgsT, argsV}
 use borrow.Table.Row.{Cx}
 use borrow.Table.Typed.{Mo}
 use borrow.Author.Called.{Called}
+use Rattle.algebra.specs.Lists.{range}
 use Rattle.rulebook.specs.Kind.{ones}
-use Rattle.rulebook.specs.Words.{range}
 use Rattle.rulebook.specs.Plain.{bits, plainFlags, pairPlain}
 use Rattle.judge_columns.specs.Group.{allUpTo}
 use Rattle.judge_columns.proofs.bit.Kinds as bit

@@ -8,7 +8,7 @@ use native.Mathlib.Omega.{arith}
 use lib.Dec.{ltb}
 use borrow.Author.Tests.{ltb-true}
 use Rattle.algebra.specs.Prime.{p}
-use Rattle.algebra.specs.Lists.{Mem}
+use Rattle.algebra.specs.Lists.{Mem, range}
 use Rattle.algebra.specs.Field.{𝔾}
 use Rattle.algebra.specs.Expr.{_⊖_, eval}
 use Rattle.algebra.proofs.Ring.{eq-of-sub}
@@ -18,7 +18,7 @@ use Rattle.table.specs.Columns.{NUM-OP-SELECTOR, COL-OPCODE as OPCODE}
 use Rattle.table.specs.SimpleArithmaticOp.{simple-arithmatic-op}
 use Rattle.rulebook.specs.Rule.{_≐_, holds, keepsAll}
 use Rattle.rulebook.specs.Kind.{kindOf}
-use Rattle.rulebook.specs.Words.{some, range}
+use Rattle.rulebook.specs.Words.{some}
 use Rattle.rulebook.specs.Rulebook.{masks-of, rules-L}
 use Rattle.rulebook.proofs.Tests.{and-left, and-right, all}
 use Rattle.rulebook.proofs.Poly.{Means, unknown, unknown-means, poly-is, poly-value}

@@ -9,7 +9,7 @@ use native.Mathlib.Omega.{arith}
 use lib.Dec.{eqb, lit<}
 use borrow.Author.Tests.{eqb-true}
 use Rattle.algebra.specs.Prime.{p}
-use Rattle.algebra.specs.Lists.{All, Mem}
+use Rattle.algebra.specs.Lists.{All, Mem, range}
 use Rattle.algebra.specs.Field.{𝔾}
 use Rattle.algebra.specs.Expr.{Expr, var, con, _⊖_, eval}
 use Rattle.algebra.proofs.Ring.{nat-add, eq-of-sub}
@@ -18,7 +18,7 @@ use Rattle.table.specs.Cells.{Cell, local, lv}
 use Rattle.table.specs.Entry.{plusAll, sum}
 use Rattle.rulebook.specs.Rule.{Rule, _≐_, _and_, _⇒_, holds}
 use Rattle.rulebook.specs.Kind.{ones}
-use Rattle.rulebook.specs.Words.{every, some, range, bit}
+use Rattle.rulebook.specs.Words.{every, some, bit}
 use Rattle.rulebook.specs.Plain.{bits}
 use Rattle.rulebook.proofs.Tests.{and-left, and-right, or-cases, not-both, same-eq, eq-same}
 use Rattle.rulebook.proofs.Values.{env, equation-is}

@@ -8,7 +8,7 @@ use lib.ListN.{drop}
 use lib.Dec.{lit<}
 use borrow.Author.Tests.{eqb-true}
 use Rattle.algebra.specs.Prime.{p}
-use Rattle.algebra.specs.Lists.{All}
+use Rattle.algebra.specs.Lists.{All, range}
 use Rattle.algebra.specs.Expr.{eval}
 use Rattle.algebra.proofs.Field.{eq-of-nat}
 use Rattle.table.specs.Cells.{Cell, local, next, lv, nv, mask}
@@ -21,7 +21,7 @@ use Rattle.table.specs.CallSc.{call-sc}
 use Rattle.table.specs.Table.{table}
 use Rattle.rulebook.specs.Rule.{Rule, _≐_, _and_, Sentence, holds, keepsAll}
 use Rattle.rulebook.specs.Kind.{ones, kindOf}
-use Rattle.rulebook.specs.Words.{PAD, every, some, range, bit, ext′, kept as stays}
+use Rattle.rulebook.specs.Words.{PAD, every, some, bit, ext′, kept as stays}
 use Rattle.rulebook.specs.Rulebook.{masks-of, rules-A, rules-B, rules-C, rules-D, rules-E, rules-F, rules-G, rules-H, rules-I, rules-J, rules-K, rules-L, rules-M, rules-N, rulebook, keeps}
 use Rattle.rulebook.specs.Plain.{plainFlags}
 use Rattle.rulebook.proofs.Open.{open-table}

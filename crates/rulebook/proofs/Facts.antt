@@ -8,13 +8,13 @@ use native.Mathlib.Omega.{arith}
 use lib.Dec.{eqb}
 use borrow.Author.Tests.{eqb-true}
 use Rattle.algebra.specs.Prime.{p}
-use Rattle.algebra.specs.Lists.{All}
+use Rattle.algebra.specs.Lists.{All, range}
 use Rattle.algebra.specs.Field.{𝔾}
 use Rattle.table.specs.Cells.{Cell, local, next, lv}
 use Rattle.table.specs.Columns.{NUM-OP-SELECTOR, COL-IS-EXT-LINE as IS-EXT-LINE, COL-OP1-IMM as OP1-IMM, COL-S-SIMPLE-ARITHMATIC-OP as SELECTORS}
 use Rattle.rulebook.specs.Rule.{holds}
 use Rattle.rulebook.specs.Kind.{ones, firstOne, kindOf}
-use Rattle.rulebook.specs.Words.{PAD, every, range, bit}
+use Rattle.rulebook.specs.Words.{PAD, every, bit}
 use Rattle.rulebook.specs.Plain.{bits, plainFlags}
 use Rattle.rulebook.proofs.Tests.{and-left, and-right}
 use Rattle.rulebook.proofs.Cells.{cell}

@@ -11,6 +11,7 @@ use borrow.Author.Tests.{leb-true, le-leb}
 use Rattle.algebra.specs.Prime.{p}
 use Rattle.algebra.specs.Field.{𝔾}
 use Rattle.algebra.specs.Expr.{Expr, con, _⊖_, _⊗_, eval}
+use Rattle.algebra.specs.Lists.{range}
 use Rattle.algebra.proofs.Ring.{eq-of-sub}
 use Rattle.algebra.proofs.Field.{𝔾·isRing, eq-of-nat}
 use Rattle.table.specs.Cells.{Cell, local, lv}
@@ -18,7 +19,7 @@ use Rattle.table.specs.Columns.{REGISTER-NUM, COL-IS-EXT-LINE as IS-EXT-LINE, C
 use Rattle.table.specs.CpuStark.{selector-sum, constraint-operands-mathches-registers}
 use Rattle.rulebook.specs.Rule.{Rule, fact, _⇒_, Sentence, holds, keepsAll}
 use Rattle.rulebook.specs.Kind.{ones, kindOf}
-use Rattle.rulebook.specs.Words.{main, every, range, bit}
+use Rattle.rulebook.specs.Words.{main, every, bit}
 use Rattle.rulebook.specs.Rulebook.{rules-H}
 use Rattle.rulebook.proofs.Open.{open-table}
 use Rattle.rulebook.proofs.Tests.{bool-ext, or-cases, isZero, isZero-eq, isZero-mul}

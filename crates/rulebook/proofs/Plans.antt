@@ -5,6 +5,7 @@ use mathlib.Core.List.{List, [], _∷_, _++_, map}
 use Prim.Native.Nat.{ℕ, suc}
 use lib.ListN.{take, drop}
 use Rattle.algebra.specs.Expr.{_⊖_}
+use Rattle.algebra.specs.Lists.{range}
 use Rattle.algebra.proofs.Lists.{below}
 use Rattle.table.specs.Cells.{Cell, local, next, maskAt, lv, mask}
 use Rattle.table.specs.Columns.{REGISTER-NUM, NUM-OP-SELECTOR, COL-IS-EXT-LINE as IS-EXT-LINE, COL-OP1-IMM as OP1-IMM, COL-OPCODE as OPCODE, COL-OP0 as OP0, COL-S-OP0-START as S-OP0, COL-S-OP1-START as S-OP1, COL-S-DST-START as S-DST, COL-S-SIMPLE-ARITHMATIC-OP as SELECTORS}
@@ -15,7 +16,7 @@ use Rattle.table.specs.Tape.{tape}
 use Rattle.table.specs.CallSc.{call-sc}
 use Rattle.rulebook.specs.Rule.{Rule, fact, _and_, Sentence, always}
 use Rattle.rulebook.specs.Kind.{CJMP, END, CALL-SC, ones, choose}
-use Rattle.rulebook.specs.Words.{DIFF, SAME, ENTRY, PAD, every, range, bit}
+use Rattle.rulebook.specs.Words.{DIFF, SAME, ENTRY, PAD, every, bit}
 use Rattle.rulebook.specs.Rulebook.{rules-A, rules-B, rules-C, rules-D, rules-E, rules-F, rules-G, rules-H, rules-I, rules-J, rules-K, rules-L, rules-M, rules-N}
 use Rattle.rulebook.proofs.Open.{open-table}
 use Rattle.rulebook.proofs.Tests.{all}

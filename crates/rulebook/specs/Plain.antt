@@ -5,12 +5,13 @@ use mathlib.Core.List.{List, [], _∷_}
 use Prim.Native.Nat.{ℕ}
 use lib.ListN.{length, take}
 use lib.Dec.{eqb}
+use Rattle.algebra.specs.Lists.{range}
 use Rattle.refusals.specs.Refusal.{canonical, distinct}
 use Rattle.table.specs.Cells.{Cell, local, next, cells}
 use Rattle.table.specs.Masks.{NUM-MASKS}
 use Rattle.table.specs.Columns.{NUM-OP-SELECTOR, COL-IS-EXT-LINE as IS-EXT-LINE, COL-S-SIMPLE-ARITHMATIC-OP as SELECTORS}
 use Rattle.rulebook.specs.Kind.{ones}
-use Rattle.rulebook.specs.Words.{DIFF, SAME, ENTRY, PAD, range}
+use Rattle.rulebook.specs.Words.{DIFF, SAME, ENTRY, PAD}
 use Rattle.rulebook.specs.Rulebook.{keeps}
 
 -- every number of a list is 0 or 1

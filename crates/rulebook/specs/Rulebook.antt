@@ -4,13 +4,14 @@ use mathlib.Core.List.{List, [], _∷_, _++_}
 use Prim.Native.Nat.{ℕ, _+_, _^_}
 use lib.Dec.{eqb, leb}
 use Rattle.algebra.specs.Expr.{Expr, con, _⊕_, _⊖_, _⊗_}
+use Rattle.algebra.specs.Lists.{range}
 use Rattle.table.specs.Cells.{Cell, local, lv, nv, mask}
 use Rattle.table.specs.Entry.{sum}
 use Rattle.table.specs.Masks as M
 use Rattle.table.specs.Columns.{REGISTER-NUM, CTX-REGISTER-NUM, NUM-OP-SELECTOR, COL-TX-IDX as TX-IDX, COL-ENV-IDX as ENV-IDX, COL-CALL-SC-CNT as CALL-SC-CNT, COL-ADDR-STORAGE-RANGE-START as STORAGE, COL-ADDR-CODE-RANGE-START as CODE, COL-TP as TP, COL-CLK as CLK, COL-PC as PC, COL-IS-EXT-LINE as IS-EXT-LINE, COL-EXT-CNT as EXT-CNT, COL-REGS-START as REGS, COL-INST as INST, COL-OP1-IMM as OP1-IMM, COL-OPCODE as OPCODE, COL-IMM-VAL as IMM-VAL, COL-OP0 as OP0, COL-OP1 as OP1, COL-DST as DST, COL-AUX0 as AUX0, COL-AUX1 as AUX1, COL-S-OP0-START as S-OP0, COL-S-OP1-START as S-OP1, COL-S-DST-START as S-DST, COL-S-SIMPLE-ARITHMATIC-OP as SELECTORS, COL-S-END as S-END, COL-S-CALL-SC as S-CALL-SC, COL-FILTER-TAPE-LOOKING as FILTER-TAPE-LOOKING, IS-SCCALL-EXT-LINE, COL-FILTER-SCCALL-END as FILTER-SCCALL-END, COL-FILTER-LOOKING-PROG-IMM as FILTER-LOOKING-PROG-IMM}
 use Rattle.rulebook.specs.Rule.{Rule, fact, _≐_, deny, _and_, _or_, _⇒_, Sentence, always, [t], [f], keepsAll}
 use Rattle.rulebook.specs.Kind.{SIMPLE-ARITHMATIC-OP, MOV, JMP, CJMP, CALL, RET, MLOAD, MSTORE, END, RC, BITWISE, NOT, GTE, PSDN, SLOAD, SSTORE, TLOAD, TSTORE, CALL-SC, ones, kindOf, choose}
-use Rattle.rulebook.specs.Words.{DIFF, SAME, ENTRY, PAD, on, off, on′, off′, main, ext, main′, ext′, kept, grows, bit, every, some, range, tells, _is_, _among_, next-among}
+use Rattle.rulebook.specs.Words.{DIFF, SAME, ENTRY, PAD, on, off, on′, off′, main, ext, main′, ext′, kept, grows, bit, every, some, tells, _is_, _among_, next-among}
 
 -- "Ext kinds: SLOAD SSTORE TLOAD TSTORE CALL_SC END."
 abbrev pub ext-kinds : List ℕ

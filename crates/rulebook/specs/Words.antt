@@ -1,7 +1,7 @@
 -- The words of the rulebook. "Unprimed is the current row, primed the next."
 use mathlib.Core.Bool.{true, false}
 use mathlib.Core.List.{List, [], _∷_}
-use Prim.Native.Nat.{ℕ, zero, suc, _+_}
+use Prim.Native.Nat.{ℕ, _+_}
 use lib.Dec.{eqb}
 use Rattle.algebra.specs.Expr.{Expr, con, _⊕_}
 use Rattle.refusals.specs.Refusal.{member}
@@ -67,11 +67,6 @@ every (i ∷ is) f = f i and every is f
 abbrev pub some : List ℕ → (ℕ → Rule) → Rule
 some [] f = fact false
 some (i ∷ is) f = f i or some is f
-
--- a, a + 1, .., a + n - 1
-abbrev pub range : ℕ → ℕ → List ℕ
-range a zero = []
-range a (suc n) = a ∷ range (suc a) n
 
 -- column c is 1 where r holds, else 0
 abbrev pub tells : ℕ → Rule → Rule

@@ -88,7 +88,7 @@ fn by_rust(
 ) {
     for pair in pairs {
         let rows = [&pair.lv, &pair.nv];
-        let weights = [Plonky2Style::ONE; 2];
+        let weights = [Plonky2Style::ONE, Plonky2Style::ONE, Plonky2Style::ZERO];
         rust.fold_rows(&pair.masks, rows, weights, alphas, accs);
     }
 }

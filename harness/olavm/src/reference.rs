@@ -4,7 +4,7 @@ use std::marker::PhantomData;
 
 use core::vm::opcodes::supply_masks;
 use fields::{Plain, Residue};
-use plonky2::field::packed::PackedField;
+use plonky2::field::{packed::PackedField, types::Field};
 
 use crate::cpu::{columns::get_cpu_col_name_map, cpu_stark::CpuStark};
 use crate::recording::{recorded, Recording};
@@ -37,14 +37,8 @@ impl Reference {
             of(pair.lagrange_basis_first),
             Recording::ZEROS,
         );
-        recorded(|| {
-            evaluate(
-                &pair.masks,
-                &pair.lv.map(of),
-                &pair.nv.map(of),
-                &mut consumer,
-            )
-        })
+        let (lv, nv) = (pair.lv.map(of), pair.nv.map(of));
+        recorded(|| evaluate(&pair.masks, [&lv, &nv], &mut consumer))
     }
 
     /// What the values of a pair, folded over the field `F`, make of each alpha's accumulator.
@@ -55,28 +49,64 @@ impl Reference {
         self.fold_rows(
             &pair.masks,
             [&pair.lv.map(of), &pair.nv.map(of)],
-            [of(pair.z_last), of(pair.lagrange_basis_first)],
+            [of(pair.z_last), of(pair.lagrange_basis_first), F::ZERO],
             &alphas,
             &mut accs,
         );
         accs.into_iter().map(F::canonical).collect()
     }
 
-    /// The same with everything but the masks given as elements of `F`: the rows are the
-    /// current and the next, the weights `z_last` and `lagrange_basis_first`.
-    pub fn fold_rows<F: Residue>(
+    /// The same with everything but the masks given as elements of any field: the rows are the
+    /// current and the next, the weights `z_last`, `lagrange_basis_first` and
+    /// `lagrange_basis_last`.
+    pub fn fold_rows<F: Field>(
         self,
         masks: &Masks,
-        [lv, nv]: [&[F; COLUMNS]; 2],
-        [z_last, lagrange_basis_first]: [F; 2],
+        rows: [&[F; COLUMNS]; 2],
+        weights: [F; 3],
         alphas: &[F],
         accs: &mut [F],
     ) {
-        let mut consumer =
-            ConstraintConsumer::new(alphas.to_vec(), z_last, lagrange_basis_first, F::ZERO);
+        let mut consumer = new_consumer(weights, alphas);
         consumer.constraint_accs.copy_from_slice(accs);
-        evaluate(masks, lv, nv, &mut consumer);
+        evaluate(masks, rows, &mut consumer);
         accs.copy_from_slice(&consumer.accumulators());
+    }
+
+    /// The same, where the accumulators start from what the Rust's `new` gives them.
+    pub fn fold_rows_from_new<F: Field>(
+        self,
+        masks: &Masks,
+        rows: [&[F; COLUMNS]; 2],
+        weights: [F; 3],
+        alphas: &[F],
+    ) -> Vec<F> {
+        let mut consumer = new_consumer(weights, alphas);
+        evaluate(masks, rows, &mut consumer);
+        consumer.accumulators()
+    }
+
+    /// What each of the consumer's calls makes of the accumulators, given one value: `constraint`,
+    /// `constraint_transition`, `constraint_first_row` and `constraint_last_row`.
+    pub fn consumer_calls<F: Field>(
+        self,
+        weights: [F; 3],
+        alphas: &[F],
+        accs: &[F],
+        value: F,
+    ) -> [Vec<F>; 4] {
+        let calls = [
+            ConstraintConsumer::constraint,
+            ConstraintConsumer::constraint_transition,
+            ConstraintConsumer::constraint_first_row,
+            ConstraintConsumer::constraint_last_row,
+        ];
+        calls.map(|call| {
+            let mut consumer = new_consumer(weights, alphas);
+            consumer.constraint_accs.copy_from_slice(accs);
+            call(&mut consumer, value);
+            consumer.accumulators()
+        })
     }
 
     /// The names that the listed `columns.rs` gives to the columns, in their order.
@@ -85,10 +115,21 @@ impl Reference {
     }
 }
 
-fn evaluate<F: Residue, P: PackedField<Scalar = F>>(
+fn new_consumer<F: Field>(
+    [z_last, lagrange_basis_first, lagrange_basis_last]: [F; 3],
+    alphas: &[F],
+) -> ConstraintConsumer<F> {
+    ConstraintConsumer::new(
+        alphas.to_vec(),
+        z_last,
+        lagrange_basis_first,
+        lagrange_basis_last,
+    )
+}
+
+fn evaluate<F: Field, P: PackedField<Scalar = F>>(
     masks: &Masks,
-    lv: &[P; COLUMNS],
-    nv: &[P; COLUMNS],
+    [lv, nv]: [&[P; COLUMNS]; 2],
     consumer: &mut ConstraintConsumer<P>,
 ) {
     supply_masks(masks);

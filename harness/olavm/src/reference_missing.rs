@@ -1,6 +1,7 @@
 //! The answers where there is no source: none.
 
 use fields::Residue;
+use plonky2::field::types::Field;
 
 use crate::{Masks, Pair, Values, COLUMNS};
 
@@ -30,14 +31,36 @@ impl Reference {
     }
 
     /// Never run.
-    pub fn fold_rows<F: Residue>(
+    pub fn fold_rows<F: Field>(
         self,
         _masks: &Masks,
         _rows: [&[F; COLUMNS]; 2],
-        _weights: [F; 2],
+        _weights: [F; 3],
         _alphas: &[F],
         _accs: &mut [F],
     ) {
+        match self {}
+    }
+
+    /// Never run.
+    pub fn fold_rows_from_new<F: Field>(
+        self,
+        _masks: &Masks,
+        _rows: [&[F; COLUMNS]; 2],
+        _weights: [F; 3],
+        _alphas: &[F],
+    ) -> Vec<F> {
+        match self {}
+    }
+
+    /// Never run.
+    pub fn consumer_calls<F: Field>(
+        self,
+        _weights: [F; 3],
+        _alphas: &[F],
+        _accs: &[F],
+        _value: F,
+    ) -> [Vec<F>; 4] {
         match self {}
     }
 
