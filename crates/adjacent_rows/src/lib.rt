@@ -39,7 +39,8 @@ impl<'a, 'b> CpuAdjacentRowWrapper<'a, 'b> {
         lagrange_basis_first: u64,
         out: &mut [u64],
     ) -> u64
-        ensures { λ r. ⌜ PairValuesCall (now (masks .entry)) (now (self .entry .lv)) (now (self .entry .nv)) «z_last» «lagrange_basis_first» (now (out .entry)) r (now (out .exit)) ⌝ }
+        ensures { λ r. ⌜ PairValuesCall (now (masks .entry)) (now (self .entry .lv)) (now (self .entry .nv)) «z_last» «lagrange_basis_first»
+            (now (out .entry)) r (now (out .exit)) ⌝ }
     {
         pair::pair_values(masks, self.lv, self.nv, z_last, lagrange_basis_first, out)
     }
@@ -54,7 +55,8 @@ pub fn adjacent_values(
     lagrange_basis_first: u64,
     out: &mut [u64],
 ) -> u64
-    ensures { λ r. ⌜ PairValuesCall (now (masks .entry)) (now (lv .entry)) (now (nv .entry)) «z_last» «lagrange_basis_first» (now (out .entry)) r (now (out .exit)) ⌝ }
+    ensures { λ r. ⌜ PairValuesCall (now (masks .entry)) (now (lv .entry)) (now (nv .entry)) «z_last» «lagrange_basis_first»
+        (now (out .entry)) r (now (out .exit)) ⌝ }
 {
     CpuAdjacentRowWrapper::from_vars(lv, nv).pair_values(masks, z_last, lagrange_basis_first, out)
 }

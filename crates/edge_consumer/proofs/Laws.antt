@@ -70,7 +70,8 @@ module _ (masks lv nv : List ℕ) (z f : ℕ) (alphas accs : List ℕ) (e : pair
   pub values-accepted : pairValuesRefusal masks lv nv 1 1 226 ≡ 0
   unfolding pairFoldRefusal pairValuesRefusal canonical
   values-accepted =
-      let k = clear (sizes masks lv nv ++ (alphaCount (length alphas) (length accs) ∷ []) ++ contents masks lv nv ++ (notBelowP ((z ∷ f ∷ []) ++ alphas ++ accs) ∷ [])) tt e in
+      let k = clear (sizes masks lv nv ++ (alphaCount (length alphas) (length accs) ∷ []) ++ contents masks lv nv
+      ++ (notBelowP ((z ∷ f ∷ []) ++ alphas ++ accs) ∷ [])) tt e in
       let l = k .1 .1 .1 .1 in
       behind (sizes masks lv nv ++ (valueBuffer 226 ∷ []) ++ contents masks lv nv ++ (notBelowP (1 ∷ 1 ∷ []) ∷ [])) []
       (k .0, (k .1 .0, (k .1 .1 .0, (refl, (l .0, (l .1 .0, (l .1 .1 .0, (refl, tt))))))))

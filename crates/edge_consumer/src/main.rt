@@ -75,7 +75,8 @@ fn by_consumer(
     accs: &mut [u64],
 )
     requires { ⌜ pairFoldRefusal (now masks) (now lv) (now nv) «z_last» «lagrange_basis_first» (now alphas) (now accs) ≡ 0 ⌝ }
-    ensures { λ _. ⌜ now (accs .exit) ≡ pairFoldAccumulators (now (masks .entry)) (now (lv .entry)) (now (nv .entry)) «z_last» «lagrange_basis_first» (now (alphas .entry)) (now (accs .entry)) ⌝ }
+    ensures { λ _. ⌜ now (accs .exit) ≡ pairFoldAccumulators (now (masks .entry)) (now (lv .entry)) (now (nv .entry)) «z_last» «lagrange_basis_first»
+        (now (alphas .entry)) (now (accs .entry)) ⌝ }
 {
     let mut values = [0u64; NUM_VALUES];
     pair::pair_values(masks, lv, nv, 1, 1, &mut values);

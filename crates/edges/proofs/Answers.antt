@@ -24,7 +24,8 @@ zero-row-written = ap (λ (vs : List ℕ). vs ++ []) (worked .zero-row-values 1)
 
 pub instruction-word-written : getD (written (encoded 4616189622349725696) zeros) 106 0 ≡ 0
 unfolding pairValuesBuffer pairValuesRefusal canonical distinct
-instruction-word-written = ap (λ (vs : List ℕ). getD vs 106 0) (append-nil (pairValues powers (encoded 4616189622349725696) zeros 0 1)) ∙ worked .instruction-word-value
+instruction-word-written = ap (λ (vs : List ℕ). getD vs 106 0) (append-nil (pairValues powers (encoded 4616189622349725696) zeros 0 1))
+    ∙ worked .instruction-word-value
 
 pub mload-written : getD (written mload (at-pc 2)) 147 0 ≡ 0
 unfolding pairValuesBuffer pairValuesRefusal canonical distinct

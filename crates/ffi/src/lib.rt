@@ -44,7 +44,8 @@ pub extern "C" fn felmugo_pair_values(
     lagrange_basis_first: u64,
     out: &mut [u64],
 ) -> u64
-    ensures { λ r. ⌜ PairValuesCall (now (masks .entry)) (now (lv .entry)) (now (nv .entry)) «z_last» «lagrange_basis_first» (now (out .entry)) r (now (out .exit)) ⌝ }
+    ensures { λ r. ⌜ PairValuesCall (now (masks .entry)) (now (lv .entry)) (now (nv .entry)) «z_last» «lagrange_basis_first»
+        (now (out .entry)) r (now (out .exit)) ⌝ }
 {
     adjacent_rows::adjacent_values(masks, lv, nv, z_last, lagrange_basis_first, out)
 }
@@ -59,7 +60,8 @@ pub extern "C" fn felmugo_pair_fold(
     alphas: &[u64],
     accs: &mut [u64],
 ) -> u64
-    ensures { λ r. ⌜ PairFoldCall (now (masks .entry)) (now (lv .entry)) (now (nv .entry)) «z_last» «lagrange_basis_first» (now (alphas .entry)) (now (accs .entry)) r (now (accs .exit)) ⌝ }
+    ensures { λ r. ⌜ PairFoldCall (now (masks .entry)) (now (lv .entry)) (now (nv .entry)) «z_last» «lagrange_basis_first»
+        (now (alphas .entry)) (now (accs .entry)) r (now (accs .exit)) ⌝ }
 {
     pair_fold::pair_fold(masks, lv, nv, z_last, lagrange_basis_first, alphas, accs)
 }

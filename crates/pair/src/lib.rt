@@ -12,7 +12,8 @@ pub fn pair_values(
     lagrange_basis_first: u64,
     out: &mut [u64],
 ) -> u64
-    ensures { λ r. ⌜ PairValuesCall (now (masks .entry)) (now (lv .entry)) (now (nv .entry)) «z_last» «lagrange_basis_first» (now (out .entry)) r (now (out .exit)) ⌝ }
+    ensures { λ r. ⌜ PairValuesCall (now (masks .entry)) (now (lv .entry)) (now (nv .entry)) «z_last» «lagrange_basis_first»
+        (now (out .entry)) r (now (out .exit)) ⌝ }
 {
     let number = refusal(masks, lv, nv, z_last, lagrange_basis_first, out.len());
     if number != 0 {

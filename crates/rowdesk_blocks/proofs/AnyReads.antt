@@ -77,7 +77,8 @@ module _ (h : Held) (k : length (h .carried) < 752) where
       go : (r : Bool) → h .state .running ≡ r → all printed (h .carried) ≡ atEnd h
       go true e =
           let q = rw (take-all 752 (h .carried) (omega arith)) at (rows-step (h .state) (h .carried) e) in
-          ap (λ (l : List ℕ). h .text ++ l) (q ∙ ap (λ (l : List ℕ). feedOf (h .state) (h .carried) .text ++ l) (ended-steps _ _ _ (short-ends (h .state) (h .carried) k)) ∙ append-nil _)
+          ap (λ (l : List ℕ). h .text ++ l) (q ∙ ap (λ (l : List ℕ). feedOf (h .state) (h .carried) .text ++ l)
+          (ended-steps _ _ _ (short-ends (h .state) (h .carried) k)) ∙ append-nil _)
           ∙ ap (λ (u : Stepped). u .text) (sym (then-running printed (h .carried) e))
       go false e =
           ap (λ (l : List ℕ). h .text ++ l) (ended-steps _ (h .state) (h .carried) e)

@@ -64,7 +64,8 @@ module _ (s : State) (bytes old : List ℕ) {mid : List ℕ} {i next : ℕ} {sta
       (record {
         is = g .state-is ∙ ap (λ (t : Stepped). t .state) a ∙ ap (λ (t : Stepped). t .state) (sym q);
         put =
-            subst (λ (t : List ℕ). Put old new 0 (r .next) t) (ap (λ (t : Stepped). fedRows i s bytes .text ++ t .text) a ∙ ap (λ (t : Stepped). t .text) (sym q))
+            subst (λ (t : List ℕ). Put old new 0 (r .next) t)
+            (ap (λ (t : Stepped). fedRows i s bytes .text ++ t .text) a ∙ ap (λ (t : Stepped). t .text) (sym q))
             (then (omega arith) (f .put) (g .put));
         few = let h = feed-short state row in omega (arith, f .few, g .put .count);
         onward = record { sound = o .sound; rows = λ x. let p = o .rows x in let u = f .onward .rows e in omega arith };

@@ -34,7 +34,8 @@ digits-are (suc k) n (suc f) a b c =
     let z : 1 ≤ 10 ^ k = one-le-pow k 10 (omega arith) in
     let l : 10 ^ suc k ≤ n = rw s at (b (omega arith)) in
     simp (le-ltb n 10 (omega arith))
-    (ap₂ (λ (x : List ℕ) (y : ℕ). x ++ (y ∷ [])) (digits-are k (n / 10) f (omega arith) (λ h. rw t (omega arith)) (omega arith)) (glyph-digit (n % 10) (omega arith)))
+    (ap₂ (λ (x : List ℕ) (y : ℕ). x ++ (y ∷ [])) (digits-are k (n / 10) f (omega arith) (λ h. rw t (omega arith)) (omega arith))
+    (glyph-digit (n % 10) (omega arith)))
 
 pub decimal-is : (n r : ℕ) → Fewest 10 1 n r → r ≤ 20 → digits 10 r n ≡ decimalOf n
 unfolding decimalOf

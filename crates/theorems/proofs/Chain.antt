@@ -49,7 +49,16 @@ module _ (masks lv nv : List ℕ) (z f : ℕ) (given : Given masks lv nv z f) wh
   unfolding judgeRefusal
   not-refused =
       let a = given .accepted in
-      simp (given .row .size, given .next-row .size, a .size, canonical-of lv (given .row .below), canonical-of nv (given .next-row .below), a .below, a .differ, given .plain)
+      simp (
+        given .row .size,
+        given .next-row .size,
+        a .size,
+        canonical-of lv (given .row .below),
+        canonical-of nv (given .next-row .below),
+        a .below,
+        a .differ,
+        given .plain,
+      )
 
   judged : verdictOf masks lv nv (isFirst f) (isLast z) ≡ cond (pairKeeps masks lv nv (isFirst f) (isLast z)) Keeps Breaks
   unfolding verdictOf
@@ -60,7 +69,18 @@ module _ (masks lv nv : List ℕ) (z f : ℕ) (given : Given masks lv nv z f) wh
     unfolding pairValuesRefusal canonical
     accepted-values =
         let a = given .accepted in
-        simp (given .row .size, given .next-row .size, a .size, canonical-of lv (given .row .below), canonical-of nv (given .next-row .below), a .below, a .differ, le-ltb _ _ room, lt-ltb _ _ (given .z-below), lt-ltb _ _ (given .f-below))
+        simp (
+          given .row .size,
+          given .next-row .size,
+          a .size,
+          canonical-of lv (given .row .below),
+          canonical-of nv (given .next-row .below),
+          a .below,
+          a .differ,
+          le-ltb _ _ room,
+          lt-ltb _ _ (given .z-below),
+          lt-ltb _ _ (given .f-below),
+        )
 
     written : pairValuesBuffer masks lv nv z f out ≡ pairValues masks lv nv z f ++ drop 226 out
     unfolding pairValuesBuffer

@@ -57,7 +57,18 @@ module _ (masks lv nv : List ℕ) (z f : ℕ) (given : Given masks lv nv z f) wh
   unfolding pairFoldRefusal canonical
   not-refused alpha h =
       let a = given .accepted in
-      simp (given .row .size, given .next-row .size, a .size, canonical-of lv (given .row .below), canonical-of nv (given .next-row .below), a .below, a .differ, lt-ltb _ _ (given .z-below), lt-ltb _ _ (given .f-below), lt-ltb _ _ h)
+      simp (
+        given .row .size,
+        given .next-row .size,
+        a .size,
+        canonical-of lv (given .row .below),
+        canonical-of nv (given .next-row .below),
+        a .below,
+        a .differ,
+        lt-ltb _ _ (given .z-below),
+        lt-ltb _ _ (given .f-below),
+        lt-ltb _ _ h,
+      )
 
   folded : (alpha : ℕ) → alpha < p → pairFoldAccumulators masks lv nv z f (alpha ∷ []) (0 ∷ []) ≡ fold residues alpha 0 (pairValues masks lv nv z f) ∷ []
   unfolding pairFoldAccumulators folds

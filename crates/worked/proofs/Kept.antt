@@ -92,11 +92,13 @@ padding-row = row-of padding refl refl
 
 -- the report, computed from the values of the run's pairs
 clean : reportOf kept-run powers ≡ record { number = 0; pairs = 6; failing = 0; spot = Clean }
-unfolding reportOf runRefusal canonical distinct failing spotFrom nonzeros firstFrom pairsOf tabulate pairAt rowAt pairValues values eval addP negP mulP open-table
+unfolding reportOf runRefusal canonical distinct failing spotFrom nonzeros firstFrom pairsOf tabulate pairAt rowAt pairValues values eval addP negP
+    mulP open-table
 clean = refl
 
 pub kept-pairs : KeptPairs
-unfolding pairPlain plainFlags bits pairKeeps keeps rulebook rules-A rules-B rules-C rules-D rules-E rules-F rules-G rules-H rules-I rules-J rules-K rules-L rules-M rules-N kindOf firstOne ones holds keepsSentence keepsAll eval addP negP mulP plusAll
+unfolding pairPlain plainFlags bits pairKeeps keeps rulebook rules-A rules-B rules-C rules-D rules-E rules-F rules-G rules-H rules-I rules-J rules-K
+    rules-L rules-M rules-N kindOf firstOne ones holds keepsSentence keepsAll eval addP negP mulP plusAll
 kept-pairs =
     record {
       of-add = kept add tstore true false add-row tstore-row (refl, refl);

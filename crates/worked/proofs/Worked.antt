@@ -46,7 +46,8 @@ prints-one-zero-row =
     (pairs-are ∙ ap (λ (vs : List ℕ). vs ∷ []) (zero-row-values 1))
 
 pub worked : Worked
-unfolding pairFoldAccumulators pairFoldRefusal canonical distinct folds fold pairValues values eval addP negP subP mulP open-table lv-ext-length instruction plusShifted plusAll instruction-size kindOf firstOne rules-G keepsAll keepsSentence holds
+unfolding pairFoldAccumulators pairFoldRefusal canonical distinct folds fold pairValues values eval addP negP subP mulP open-table lv-ext-length
+    instruction plusShifted plusAll instruction-size kindOf firstOne rules-G keepsAll keepsSentence holds
 worked =
     record {
       minus-one-squared = refl;

@@ -15,22 +15,23 @@ use draw::Draw;
 use olavm::{Reference, SOURCE, SOURCE_MISSING};
 use outcome::Outcome;
 use source::Source;
+use tally::Asked;
 
-/// How many copies the gate has, and the first seed.
-const SHORT: usize = 40;
-const SEED: u64 = 0;
+/// How many copies the gate has.
+const SHORT: u64 = 40;
 
 fn main() -> ExitCode {
     let arguments: Vec<String> = std::env::args().skip(1).collect();
-    let Some((count, seed)) = parse(&arguments) else {
-        eprintln!("usage: altered short | altered long COUNT [SEED]");
+    let arguments: Vec<&str> = arguments.iter().map(String::as_str).collect();
+    let Some(Asked { count, seed }) = Asked::of(&arguments) else {
+        eprintln!("usage: altered short | altered long N [SEED]");
         return ExitCode::from(2);
     };
     let Some(rust) = Reference::find() else {
         println!("no copy of the Rust was altered: {SOURCE_MISSING}");
         return ExitCode::SUCCESS;
     };
-    match run(rust, count, seed) {
+    match run(rust, count.unwrap_or(SHORT), seed) {
         Ok(code) => code,
         Err(message) => {
             eprintln!("{message}");
@@ -39,20 +40,11 @@ fn main() -> ExitCode {
     }
 }
 
-fn parse(arguments: &[String]) -> Option<(usize, u64)> {
-    let arguments: Vec<&str> = arguments.iter().map(String::as_str).collect();
-    match arguments[..] {
-        ["short"] => Some((SHORT, SEED)),
-        ["long", count] => Some((count.parse().ok()?, SEED)),
-        ["long", count, seed] => Some((count.parse().ok()?, seed.parse().ok()?)),
-        _ => None,
-    }
-}
-
-fn run(rust: Reference, count: usize, seed: u64) -> Result<ExitCode, String> {
+fn run(rust: Reference, count: u64, seed: u64) -> Result<ExitCode, String> {
     let source = Source::read(SOURCE.as_ref())?;
     let workshop = Workshop::new(rust, &source)?;
     let mut draw = Draw::new(&source, seed);
+    let count = usize::try_from(count).map_err(|error| error.to_string())?;
     let mut tally = Tally::default();
     while tally.built() < count {
         let drawn = draw.some(count - tally.built());

@@ -89,7 +89,8 @@ fn by_rust(
     for pair in pairs {
         let rows = [&pair.lv, &pair.nv];
         let weights = [Plonky2Style::ONE, Plonky2Style::ONE, Plonky2Style::ZERO];
-        rust.fold_rows(&pair.masks, rows, weights, alphas, accs);
+        let folded = rust.fold_rows(&pair.masks, rows, weights, alphas, Some(accs));
+        accs.copy_from_slice(&folded);
     }
 }
 

@@ -4,9 +4,9 @@ use std::process::ExitCode;
 
 use compare::{Amounts, Comparison, Linked};
 use olavm::{Reference, SOURCE_MISSING};
-use tally::NOT_COMPARED;
+use tally::{Asked, NOT_COMPARED};
 
-/// What a short comparison compares, and the first seed of both.
+/// What a short comparison compares.
 const SHORT: Amounts = Amounts {
     operands: 100_000,
     rounds: 50,
@@ -15,14 +15,15 @@ const SHORT: Amounts = Amounts {
     rows: 2_000,
     limits: true,
 };
-const SEED: u64 = 0;
 
 fn main() -> ExitCode {
     let arguments: Vec<String> = std::env::args().skip(1).collect();
-    let Some((amounts, seed)) = parse(&arguments) else {
+    let arguments: Vec<&str> = arguments.iter().map(String::as_str).collect();
+    let Some(Asked { count, seed }) = Asked::of(&arguments) else {
         eprintln!("usage: compare short | compare long N [SEED]");
         return ExitCode::from(2);
     };
+    let amounts = count.map_or(SHORT, long);
     let Some(rust) = Reference::find() else {
         println!("{NOT_COMPARED}{SOURCE_MISSING}");
         return ExitCode::SUCCESS;
@@ -36,17 +37,6 @@ fn main() -> ExitCode {
     println!("{tally}");
     println!("{}", tally.told("answers of functions"));
     tally.status()
-}
-
-/// What is compared, and the first seed.
-fn parse(arguments: &[String]) -> Option<(Amounts, u64)> {
-    let arguments: Vec<&str> = arguments.iter().map(String::as_str).collect();
-    match arguments[..] {
-        ["short"] => Some((SHORT, SEED)),
-        ["long", count] => Some((long(count.parse().ok()?), SEED)),
-        ["long", count, seed] => Some((long(count.parse().ok()?), seed.parse().ok()?)),
-        _ => None,
-    }
 }
 
 /// So many pairs, and a run for each 200 of them.

@@ -45,43 +45,33 @@ impl Reference {
     pub fn fold<F: Residue>(self, pair: &Pair, alphas: &[u64], accs: &[u64]) -> Vec<u64> {
         let of = F::from_canonical_u64;
         let alphas: Vec<F> = alphas.iter().copied().map(of).collect();
-        let mut accs: Vec<F> = accs.iter().copied().map(of).collect();
-        self.fold_rows(
+        let accs: Vec<F> = accs.iter().copied().map(of).collect();
+        let folded = self.fold_rows(
             &pair.masks,
             [&pair.lv.map(of), &pair.nv.map(of)],
             [of(pair.z_last), of(pair.lagrange_basis_first), F::ZERO],
             &alphas,
-            &mut accs,
+            Some(&accs),
         );
-        accs.into_iter().map(F::canonical).collect()
+        folded.into_iter().map(F::canonical).collect()
     }
 
     /// The same with everything but the masks given as elements of any field: the rows are the
     /// current and the next, the weights `z_last`, `lagrange_basis_first` and
-    /// `lagrange_basis_last`.
+    /// `lagrange_basis_last`. Where no accumulators are given, they start from what the Rust's
+    /// `new` gives them.
     pub fn fold_rows<F: Field>(
         self,
         masks: &Masks,
         rows: [&[F; COLUMNS]; 2],
         weights: [F; 3],
         alphas: &[F],
-        accs: &mut [F],
-    ) {
-        let mut consumer = new_consumer(weights, alphas);
-        consumer.constraint_accs.copy_from_slice(accs);
-        evaluate(masks, rows, &mut consumer);
-        accs.copy_from_slice(&consumer.accumulators());
-    }
-
-    /// The same, where the accumulators start from what the Rust's `new` gives them.
-    pub fn fold_rows_from_new<F: Field>(
-        self,
-        masks: &Masks,
-        rows: [&[F; COLUMNS]; 2],
-        weights: [F; 3],
-        alphas: &[F],
+        accs: Option<&[F]>,
     ) -> Vec<F> {
         let mut consumer = new_consumer(weights, alphas);
+        if let Some(accs) = accs {
+            consumer.constraint_accs.copy_from_slice(accs);
+        }
         evaluate(masks, rows, &mut consumer);
         consumer.accumulators()
     }

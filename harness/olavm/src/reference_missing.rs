@@ -37,18 +37,7 @@ impl Reference {
         _rows: [&[F; COLUMNS]; 2],
         _weights: [F; 3],
         _alphas: &[F],
-        _accs: &mut [F],
-    ) {
-        match self {}
-    }
-
-    /// Never run.
-    pub fn fold_rows_from_new<F: Field>(
-        self,
-        _masks: &Masks,
-        _rows: [&[F; COLUMNS]; 2],
-        _weights: [F; 3],
-        _alphas: &[F],
+        _accs: Option<&[F]>,
     ) -> Vec<F> {
         match self {}
     }

@@ -8,7 +8,7 @@ use std::process::ExitCode;
 use olavm::{Reference, SOURCE_MISSING};
 use rowdesk::comparison::{alone, everything, Amounts};
 use rowdesk::{built, container, samples, Program};
-use tally::NOT_COMPARED;
+use tally::{Asked, NOT_COMPARED};
 
 /// What a short comparison compares, and the first seed.
 const SHORT: Amounts = Amounts {
@@ -36,36 +36,34 @@ fn main() -> ExitCode {
 /// Does what can be done of what the arguments say without the Rust.
 fn run_alone(arguments: &[&str]) -> Option<ExitCode> {
     match arguments {
-        ["short"] | ["long", _] | ["long", _, _] => Some(compare_alone()),
         ["cases"] | ["samples", _] => {
             eprintln!("{SOURCE_MISSING}");
             Some(ExitCode::SUCCESS)
         }
-        _ => None,
+        _ => Asked::of(arguments).map(|_| compare_alone()),
     }
 }
 
 /// Does what the arguments say, if they say something.
 fn run(rust: Reference, arguments: &[&str]) -> Option<ExitCode> {
     let status = match arguments {
-        ["short"] => compare(rust, SEED, SHORT),
-        ["long", inputs] => compare(rust, SEED, long(inputs)?),
-        ["long", inputs, seed] => compare(rust, seed.parse().ok()?, long(inputs)?),
         ["cases"] => status(io::stdout().write_all(&container::file(rust))),
         ["samples", folder] => status(samples::write(rust, Path::new(folder))),
-        _ => return None,
+        _ => {
+            let Asked { count, seed } = Asked::of(arguments)?;
+            compare(rust, seed, count.map_or(SHORT, long))
+        }
     };
     Some(status)
 }
 
-fn long(inputs: &str) -> Option<Amounts> {
-    let inputs = inputs.parse().ok()?;
+fn long(inputs: u64) -> Amounts {
     let rows = 2000;
-    Some(Amounts {
+    Amounts {
         inputs,
         rows,
         ..SHORT
-    })
+    }
 }
 
 /// The program that `rt` builds; without it nothing is compared.

@@ -58,11 +58,8 @@ fn with_masks(rust: Reference, tokens: &Masks) -> Exprs {
         alphas,
         accs: starts,
     } = Consumer::of_variables();
-    let mut accs = starts;
-    let from_new = with_mask_tokens(tokens, || {
-        rust.fold_rows(tokens, [&lv, &nv], weights, &alphas, &mut accs);
-        rust.fold_rows_from_new(tokens, [&lv, &nv], weights, &alphas)
-    });
+    let fold = |accs| rust.fold_rows(tokens, [&lv, &nv], weights, &alphas, accs);
+    let (accs, from_new) = with_mask_tokens(tokens, || (fold(Some(&starts)), fold(None)));
 
     let values = folded(accs[0], starts[0], alphas[0])?;
     for i in 0..ALPHAS {

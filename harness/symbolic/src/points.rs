@@ -32,11 +32,12 @@ impl Point {
         let pair = &self.pair;
         let folds = rust.fold::<Plain>(pair, &self.alphas, &self.accs);
         let of = Plain::from_canonical_u64;
-        let from_new = rust.fold_rows_from_new(
+        let from_new = rust.fold_rows(
             &pair.masks,
             [&pair.lv.map(of), &pair.nv.map(of)],
             [pair.z_last, pair.lagrange_basis_first, 0].map(of),
             &self.alphas.map(of),
+            None,
         );
         let from_new = from_new.into_iter().map(Plain::canonical);
         let folds = folds.into_iter().chain(from_new);

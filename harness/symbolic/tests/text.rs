@@ -78,8 +78,22 @@ fn masks_are_only_handed_on() {
     assert_eq!(text.matches("ops_to_op").count(), walks.len());
 }
 
-/// The shims' traits give the operations and `Copy`; without these words there is no other way to
-/// tell one type of elements from another.
+/// Words by which code could tell one type of elements from another, or read something else than
+/// its arguments: the shims' traits give the operations and `Copy` alone.
+const WORDS: [&str; 11] = [
+    "unsafe",
+    "asm!",
+    "size_of",
+    "align_of",
+    "needs_drop",
+    "type_name",
+    "TypeId",
+    "any::",
+    "std::env",
+    "static",
+    "thread_local",
+];
+
 #[test]
 fn elements_are_only_operated_on() {
     if Reference::find().is_none() {
@@ -87,14 +101,7 @@ fn elements_are_only_operated_on() {
     }
     for module in MODULES {
         let text = text(module);
-        for word in [
-            "unsafe",
-            "size_of",
-            "align_of",
-            "type_name",
-            "TypeId",
-            "asm!",
-        ] {
+        for word in WORDS {
             assert!(!text.contains(word), "{module}: {word}");
         }
     }

@@ -1,4 +1,8 @@
-//! Counts of what was compared.
+//! What a comparison is asked for, and counts of what was compared.
+
+mod asked;
+
+pub use asked::Asked;
 
 use std::fmt::{self, Debug};
 use std::process::ExitCode;

@@ -67,7 +67,8 @@ module _ {M : Type 1} (𝓤 : URA M) (H : Heap 𝓤) (A : Atoms 𝓤) (mem : Mem
   abbrev Thin : Contract 𝓤
   Thin = tripleOf 𝓤 H A thin.signature (thin.spec 𝓤 H A mem run)
 
-module _ {M : Type 1} (𝓤 : URA M) (H : Heap 𝓤) (A : Atoms 𝓤) (W : Given 𝓤 H A) (mem : Memory → SProp 𝓤) (run : Routine → Fun 𝓤) (κᵐ κ κ′ κᵒ : Lft) (qᵐ q q′ qᵒ : Share) (m s t : RefT (List ℕ)) (z f : ℕ) (b o : ℕ) (γ : GName) (ys : List ℕ) (z-fits : z < 2 ^ 64) (f-fits : f < 2 ^ 64) where
+module _ {M : Type 1} (𝓤 : URA M) (H : Heap 𝓤) (A : Atoms 𝓤) (W : Given 𝓤 H A) (mem : Memory → SProp 𝓤) (run : Routine → Fun 𝓤) (κᵐ κ κ′ κᵒ : Lft)
+    (qᵐ q q′ qᵒ : Share) (m s t : RefT (List ℕ)) (z f : ℕ) (b o : ℕ) (γ : GName) (ys : List ℕ) (z-fits : z < 2 ^ 64) (f-fits : f < 2 ^ 64) where
   abbrev κs : Lfts 4
   κs = (κᵐ, (κ, (κ′, (κᵒ, tt))))
 
@@ -115,7 +116,8 @@ module _ {M : Type 1} (𝓤 : URA M) (H : Heap 𝓤) (A : Atoms 𝓤) (W : Given
 
   -- what the parameters beside the rows own
   abbrev Rest : Fml
-  Rest = owns (ShrSlice (named 0) κᵐ u64 ∷ u64 ∷ u64 ∷ MutSlice (named 3) κᵒ u64 ∷ []) (m, (z, (f, (x, tt)))) (slice m ∷ [], (vint w64 z ∷ [], (vint w64 f ∷ [], (slice x ∷ [], tt))))
+  Rest = owns (ShrSlice (named 0) κᵐ u64 ∷ u64 ∷ u64 ∷ MutSlice (named 3) κᵒ u64 ∷ []) (m, (z, (f, (x, tt))))
+      (slice m ∷ [], (vint w64 z ∷ [], (vint w64 f ∷ [], (slice x ∷ [], tt))))
 
   -- the call of `from_vars`
   abbrev to-new : New 𝓤 H A mem run .Ghost
@@ -124,8 +126,11 @@ module _ {M : Type 1} (𝓤 : URA M) (H : Heap 𝓤) (A : Atoms 𝓤) (W : Given
   goes-new : ent 𝓤 (onEntry 𝓤 H A it.signature κs (qᵐ, (q, (q′, (qᵒ, tt)))) args at)
       (sep 𝓤 (New 𝓤 H A mem run .pre to-new) (sep 𝓤 (sep 𝓤 (sem 𝓤 H A S₀) (sem 𝓤 H A T₀)) (sep 𝓤 (sep 𝓤 (A .lft κᵐ qᵐ) (sep 𝓤 (A .lft κᵒ qᵒ) (sem 𝓤 H A ftrue))) (sem 𝓤 H A Rest))))
   goes-new =
-      qed W ((‵ (flft κᵐ qᵐ) ⊛ ‵ (flft κ q) ⊛ ‵ (flft κ′ q′) ⊛ ‵ (flft κᵒ qᵒ) ⊛ ‵ ftrue) ∷ ‵ (owns (ShrSlice (named 0) κᵐ u64 ∷ ShrSlice (named 1) κ u64 ∷ ShrSlice (named 2) κ′ u64 ∷ u64 ∷ u64 ∷ MutSlice (named 3) κᵒ u64 ∷ []) args at) ∷ []) ∵
-      move ! (1 ∷ []) $ fsplit ! $ move ! (1 ∷ []) $ fsplit ! $ use1 W (‵ S₀ ⊛ ‵ S₀) (shr-slice-copy 𝓤 H A W (named 1) κ u64 .twice s (slice s ∷ [])) $ split ! $ move ! (2 ∷ []) $ fsplit ! $ use1 W (‵ T₀ ⊛ ‵ T₀) (shr-slice-copy 𝓤 H A W (named 2) κ′ u64 .twice t (slice t ∷ [])) $ split ! $
+      qed W ((‵ (flft κᵐ qᵐ) ⊛ ‵ (flft κ q) ⊛ ‵ (flft κ′ q′) ⊛ ‵ (flft κᵒ qᵒ) ⊛ ‵ ftrue)
+      ∷ ‵ (owns (ShrSlice (named 0) κᵐ u64 ∷ ShrSlice (named 1) κ u64 ∷ ShrSlice (named 2) κ′ u64 ∷ u64 ∷ u64 ∷ MutSlice (named 3) κᵒ u64 ∷ [])
+      args at) ∷ []) ∵
+      move ! (1 ∷ []) $ fsplit ! $ move ! (1 ∷ []) $ fsplit ! $ use1 W (‵ S₀ ⊛ ‵ S₀) (shr-slice-copy 𝓤 H A W (named 1) κ u64 .twice s (slice s ∷ [])) $
+      split ! $ move ! (2 ∷ []) $ fsplit ! $ use1 W (‵ T₀ ⊛ ‵ T₀) (shr-slice-copy 𝓤 H A W (named 2) κ′ u64 .twice t (slice t ∷ [])) $ split ! $
       -- [nv's; nv's; the numbers' and the buffer's, as owns; lv's; lv's; the masks'; the tokens]
       nothing ! $ move ! (1 ∷ 0 ∷ []) $ fjoin ! $ move ! (3 ∷ 0 ∷ []) $ fjoin ! $ move ! (4 ∷ 2 ∷ []) $ fjoin ! $
       -- [the rest's; the rows', as owns; nv's; lv's; the tokens]
@@ -148,7 +153,8 @@ module _ {M : Type 1} (𝓤 : URA M) (H : Heap 𝓤) (A : Atoms 𝓤) (W : Given
   abbrev to-thin : CpuAdjacentRowWrapper → Val → Thin 𝓤 H A mem run .Ghost
   to-thin r u = ((κt, (q, (q′, (qᵐ, (qᵒ, tt)))), tt, thin-args r, passed u), tt)
 
-  asked : (r : CpuAdjacentRowWrapper) (u : Val) → ent 𝓤 (onEntry 𝓤 H A thin.signature κt (q, (q′, (qᵐ, (qᵒ, tt)))) (thin-args r) (passed u)) (Thin 𝓤 H A mem run .pre (to-thin r u))
+  asked : (r : CpuAdjacentRowWrapper) (u : Val) → ent 𝓤 (onEntry 𝓤 H A thin.signature κt (q, (q′, (qᵐ, (qᵒ, tt)))) (thin-args r) (passed u))
+      (Thin 𝓤 H A mem run .pre (to-thin r u))
   asked r u =
       qed W ((‵ (flft κ q) ⊛ ‵ (flft κ′ q′) ⊛ ‵ (flft κᵐ qᵐ) ⊛ ‵ (flft κᵒ qᵒ) ⊛ ‵ ftrue) ∷ ‵ (owns (B rows ∷ ShrSlice (named 2) κᵐ u64 ∷ u64 ∷ u64 ∷ MutSlice (named 3) κᵒ u64 ∷ []) (thin-args r) (passed u)) ∷ []) ∵ join ! $ frame ! $ done !
 
@@ -157,7 +163,8 @@ module _ {M : Type 1} (𝓤 : URA M) (H : Heap 𝓤) (A : Atoms 𝓤) (W : Given
       qed W (‵ (B rows .own r (u ∷ [])) ∷ (‵ (flft κ q) ⊛ ‵ (flft κ′ q′) ⊛ ‵ ftrue) ∷ ((‵ (flft κᵐ qᵐ) ⊛ ‵ (flft κᵒ qᵒ) ⊛ ‵ ftrue) ⊛ ‵ Rest) ∷ []) ∵
       move ! (2 ∷ []) $ split ! $ move ! (3 ∷ []) $ split ! $ move ! (1 ∷ []) $ split ! $
       -- [κ′'s token; true; κ's; κᵐ's and κᵒ's; the rest's; the record's]
-      move ! (0 ∷ 3 ∷ []) $ join ! $ move ! (2 ∷ 0 ∷ []) $ join ! $ move ! (2 ∷ []) $ fsplit ! $ use1 W (‵ Masks ⊛ ‵ Masks) (shr-slice-copy 𝓤 H A W (named 0) κᵐ u64 .twice m (slice m ∷ [])) $ split ! $
+      move ! (0 ∷ 3 ∷ []) $ join ! $ move ! (2 ∷ 0 ∷ []) $ join ! $ move ! (2 ∷ []) $ fsplit ! $ use1 W (‵ Masks ⊛ ‵ Masks)
+      (shr-slice-copy 𝓤 H A W (named 0) κᵐ u64 .twice m (slice m ∷ [])) $ split ! $
       -- [the masks'; the masks'; the numbers' and the buffer's, as owns; the tokens; true; the record's]
       move ! (0 ∷ 2 ∷ []) $ fjoin ! $ move ! (4 ∷ 0 ∷ []) $ fjoin ! $ move ! (2 ∷ 0 ∷ []) $ use2 W (raw (Thin 𝓤 H A mem run .pre (to-thin r u))) (asked r u) $ frame ! $ move ! (1 ∷ []) $ drop ! $ done !
 
@@ -165,24 +172,33 @@ module _ {M : Type 1} (𝓤 : URA M) (H : Heap 𝓤) (A : Atoms 𝓤) (W : Given
       → ent 𝓤 (⋆ 𝓤 H A (‵ (u64 .own n (u ∷ [])) ∷ (‵ (flft κ q) ⊛ ‵ (flft κ′ q′) ⊛ ‵ (flft κᵐ qᵐ) ⊛ ‵ (flft κᵒ qᵒ) ⊛ ‵ ftrue) ∷ ‵ (finally u64 γ zs) ∷ ‵ Masks ∷ (‵ S₀ ⊛ ‵ T₀) ∷ [])) (Post u)
   exits n u zs e l =
       qed W (‵ (u64 .own n (u ∷ [])) ∷ (‵ (flft κ q) ⊛ ‵ (flft κ′ q′) ⊛ ‵ (flft κᵐ qᵐ) ⊛ ‵ (flft κᵒ qᵒ) ⊛ ‵ ftrue) ∷ ‵ (finally u64 γ zs) ∷ ‵ Masks ∷ (‵ S₀ ⊛ ‵ T₀) ∷ []) ∵
-      suffices ! _ (ends-at 𝓤 H A it.ended stayed (it.clauses 𝓤 H A mem run) W ((κs, (qᵐ, (q, (q′, (qᵒ, tt)))), tt, args, at), tt) u n (tt, (tt, (tt, (tt, (tt, (zs, tt)))))) (tt, (tt, (tt, (tt, (tt, (l, tt))))))) $ says ! e $
+      suffices ! _ (ends-at 𝓤 H A it.ended stayed (it.clauses 𝓤 H A mem run) W ((κs, (qᵐ, (q, (q′, (qᵒ, tt)))), tt, args, at), tt) u n
+      (tt, (tt, (tt, (tt, (tt, (zs, tt)))))) (tt, (tt, (tt, (tt, (tt, (l, tt))))))) $ says ! e $
       move ! (1 ∷ []) $ split ! $ move ! (1 ∷ []) $ split ! $ move ! (1 ∷ []) $ split ! $
       -- [κᵐ's; κᵒ's and true; κ′'s; κ's; the result; the last list; the masks'; lv's and nv's]
       move ! (2 ∷ 1 ∷ []) $ join ! $ move ! (2 ∷ 0 ∷ []) $ join ! $ move ! (1 ∷ 0 ∷ []) $ join ! $ frame ! $
-      nothing ! $ move ! (2 ∷ 0 ∷ []) $ fjoin ! $ owned ! u64 (Is u64) (uint-makes 𝓤 H A W w64) f _ (refl, f-fits) $ fjoin ! $ owned ! u64 (Is u64) (uint-makes 𝓤 H A W w64) z _ (refl, z-fits) $ fjoin ! $
+      nothing ! $ move ! (2 ∷ 0 ∷ []) $ fjoin ! $ owned ! u64 (Is u64) (uint-makes 𝓤 H A W w64) f _ (refl, f-fits) $ fjoin ! $
+      owned ! u64 (Is u64) (uint-makes 𝓤 H A W w64) z _ (refl, z-fits) $ fjoin ! $
       -- [the numbers' and the last list, as owns; the result; the masks'; lv's and nv's]
       move ! (3 ∷ []) $ split ! $ move ! (1 ∷ 2 ∷ []) $ fjoin ! $ move ! (1 ∷ 0 ∷ []) $ fjoin ! $ move ! (2 ∷ 0 ∷ []) $ fjoin ! $ frame ! $ done !
 
   module _ (C : Calls 𝓤 H) (Λ : Loops 𝓤 H) (fm : FmC 𝓤 H (W .laws) C) (known-new : Triple 𝓤 (C #new) (New 𝓤 H A mem run)) (known : Triple 𝓤 (C #thin) (Thin 𝓤 H A mem run)) where
-    walk : Is (ShrSlice (named 0) κᵐ u64) m (slice m ∷ []) → Is (ShrSlice (named 1) κ u64) s (slice s ∷ []) → Is (ShrSlice (named 2) κ′ u64) t (slice t ∷ []) → Room u64 (length ys)
-        → ent 𝓤 (onEntry 𝓤 H A it.signature κs (qᵐ, (q, (q′, (qᵒ, tt)))) args at) (WpFn 𝓤 H C Λ code.function (slice m ∷ slice s ∷ slice t ∷ vint w64 z ∷ vint w64 f ∷ slice x ∷ []) Post)
+    walk : Is (ShrSlice (named 0) κᵐ u64) m (slice m ∷ []) → Is (ShrSlice (named 1) κ u64) s (slice s ∷ [])
+        → Is (ShrSlice (named 2) κ′ u64) t (slice t ∷ []) → Room u64 (length ys)
+        → ent 𝓤 (onEntry 𝓤 H A it.signature κs (qᵐ, (q, (q′, (qᵒ, tt)))) args at)
+        (WpFn 𝓤 H C Λ code.function (slice m ∷ slice s ∷ slice t ∷ vint w64 z ∷ vint w64 f ∷ slice x ∷ []) Post)
     walk is-m is-s is-t room =
-        qed W (raw (onEntry 𝓤 H A it.signature κs (qᵐ, (q, (q′, (qᵒ, tt)))) args at) ∷ []) ∵ enter ! C Λ code.function (slice m ∷ slice s ∷ slice t ∷ vint w64 z ∷ vint w64 f ∷ slice x ∷ []) _ $
+        qed W (raw (onEntry 𝓤 H A it.signature κs (qᵐ, (q, (q′, (qᵒ, tt)))) args at) ∷ []) ∵
+        enter ! C Λ code.function (slice m ∷ slice s ∷ slice t ∷ vint w64 z ∷ vint w64 f ∷ slice x ∷ []) _ $
         alloc1 ! (λ l₀. alloc1 ! (λ l₁. alloc1 ! (λ l₂. alloc1 ! (λ l₃. alloc1 ! (λ l₄. alloc1 ! (λ l₅. alloc1 ! (λ l₆. alloc1 ! (λ l₇. alloc1 ! (λ l₈. alloc1 ! (λ l₉. alloc0 ! $ params1 ! $
-        pass1 ! (init ! 16 refl (shr-slice-lawful 𝓤 H A W (named 0) κᵐ u64 .typed m (slice m ∷ []) is-m .0)) $ pass1 ! (init ! 14 refl (shr-slice-lawful 𝓤 H A W (named 1) κ u64 .typed s (slice s ∷ []) is-s .0)) $
-        pass1 ! (init ! 12 refl (shr-slice-lawful 𝓤 H A W (named 2) κ′ u64 .typed t (slice t ∷ []) is-t .0)) $ pass1 ! (init ! 10 refl (tt, record { fits = z-fits })) $ pass1 ! (init ! 8 refl (tt, record { fits = f-fits })) $ pass1 ! (init ! 6 refl (tt, (tt, (record { fits = room .0 }, tt)))) $ pass0 ! $
+        pass1 ! (init ! 16 refl (shr-slice-lawful 𝓤 H A W (named 0) κᵐ u64 .typed m (slice m ∷ []) is-m .0)) $
+        pass1 ! (init ! 14 refl (shr-slice-lawful 𝓤 H A W (named 1) κ u64 .typed s (slice s ∷ []) is-s .0)) $
+        pass1 ! (init ! 12 refl (shr-slice-lawful 𝓤 H A W (named 2) κ′ u64 .typed t (slice t ∷ []) is-t .0)) $
+        pass1 ! (init ! 10 refl (tt, record { fits = z-fits })) $ pass1 ! (init ! 8 refl (tt, record { fits = f-fits })) $
+        pass1 ! (init ! 6 refl (tt, (tt, (record { fits = room .0 }, tt)))) $ pass0 ! $
         move ! (20 ∷ []) $ use1 W (raw (New 𝓤 H A mem run .pre to-new) ⊛ ((‵ S₀ ⊛ ‵ T₀) ⊛ ((‵ (flft κᵐ qᵐ) ⊛ ‵ (flft κᵒ qᵒ) ⊛ ‵ ftrue) ⊛ ‵ Rest))) goes-new $ split ! $
-        calls-at ! fm (New 𝓤 H A mem run) known-new to-new (and-then ! (load ! (from ! (stop !)) (look ! 16 refl)) (and-then ! (load ! (from ! (stop !)) (look ! 14 refl)) (no-more !))) (λ u.
+        calls-at ! fm (New 𝓤 H A mem run) known-new to-new
+        (and-then ! (load ! (from ! (stop !)) (look ! 16 refl)) (and-then ! (load ! (from ! (stop !)) (look ! 14 refl)) (no-more !))) (λ u.
         use1 W (later (some (λ (r : CpuAdjacentRowWrapper). ((‵ (flft κ q) ⊛ ‵ (flft κ′ q′) ⊛ ‵ ftrue) ⊛ ‵ (B rows .own r (u ∷ []))) ⊛ raw (ensured 𝓤 H A new.ended (new.clauses 𝓤 H A mem run) rows (s, (t, tt)) tt r)))) (id⊢ 𝓤 _) $ await ! tt $ pick ! (λ r.
         split ! $ move ! (1 ∷ []) $ use1 W (raw (fact 𝓤 ((r .lv ≡ s) × (r .nv ≡ t)))) (new-told r) $ heard ! ((r .lv ≡ s) × (r .nv ≡ t)) (λ e. split ! $ move ! (1 ∷ []) $
         -- [what the record owns; the rows' tokens; what is kept; room for _9; …; room for _8; …; room for _7; …; _6; …; _5; …; _4; …; _3; …; _2; …; _1; …; room for _0; …]
@@ -192,9 +208,16 @@ module _ {M : Type 1} (𝓤 : URA M) (H : Heap 𝓤) (A : Atoms 𝓤) (W : Given
         assigns ! (agg ! (and-then ! (load ! (from ! (stop !)) (look ! 5 refl)) (and-then ! (load ! (from ! (fld ! refl (stop !))) (look-in ! 9 (sub ! 1 refl (whole !)))) (no-more !)))) (from ! (stop !)) (init ! 3 refl (tt, (tt, (record { fits = room .0 }, tt)))) $
         move ! (2 ∷ []) $ split ! $ move ! (2 ∷ 3 ∷ 1 ∷ []) $ use3 W (raw (Thin 𝓤 H A mem run .pre (to-thin r u)) ⊛ ‵ Masks) (goes-thin r u) $ split ! $
         -- [what the thin function asks; the masks'; what the rows own; _9; …; _8; …; _7; …]
-        calls-at ! fm (Thin 𝓤 H A mem run) known (to-thin r u) (and-then ! (load ! (from ! (stop !)) (look ! 7 refl)) (and-then ! (load ! (from ! (stop !)) (look ! 19 refl)) (and-then ! (load ! (from ! (stop !)) (look ! 13 refl)) (and-then ! (load ! (from ! (stop !)) (look ! 11 refl)) (and-then ! (load ! (from ! (stop !)) (look ! 3 refl)) (no-more !)))))) (λ u′.
-        use1 W (later (some (λ (n : ℕ). ((‵ (flft κ q) ⊛ ‵ (flft κ′ q′) ⊛ ‵ (flft κᵐ qᵐ) ⊛ ‵ (flft κᵒ qᵒ) ⊛ ‵ ftrue) ⊛ ‵ (u64 .own n (u′ ∷ []))) ⊛ raw (ensured 𝓤 H A thin.ended (thin.clauses 𝓤 H A mem run) κt (thin-args r) tt n)))) (id⊢ 𝓤 _) $ await ! tt $ pick ! (λ n.
-        split ! $ move ! (1 ∷ []) $ use1 W (some (λ (zs : Unit {0} × (Unit {0} × (Unit {0} × (Unit {0} × (List ℕ × Unit {0}))))). ‵ (lasts thin.ended κt (thin-args r) zs) ⊛ raw (fact 𝓤 (Told (r .lv) (r .nv) n (zs .1 .1 .1 .1 .0))))) (id⊢ 𝓤 _) $ pick ! (λ zs.
+        calls-at ! fm (Thin 𝓤 H A mem run) known (to-thin r u)
+        (and-then ! (load ! (from ! (stop !)) (look ! 7 refl))
+        (and-then ! (load ! (from ! (stop !)) (look ! 19 refl))
+        (and-then ! (load ! (from ! (stop !)) (look ! 13 refl))
+        (and-then ! (load ! (from ! (stop !)) (look ! 11 refl)) (and-then ! (load ! (from ! (stop !)) (look ! 3 refl)) (no-more !)))))) (λ u′.
+        use1 W (later (some (λ (n : ℕ). ((‵ (flft κ q) ⊛ ‵ (flft κ′ q′) ⊛ ‵ (flft κᵐ qᵐ) ⊛ ‵ (flft κᵒ qᵒ) ⊛ ‵ ftrue) ⊛ ‵ (u64 .own n (u′ ∷ []))) ⊛ raw
+        (ensured 𝓤 H A thin.ended (thin.clauses 𝓤 H A mem run) κt (thin-args r) tt n)))) (id⊢ 𝓤 _) $ await ! tt $ pick ! (λ n.
+        split ! $ move ! (1 ∷ []) $
+        use1 W (some (λ (zs : Unit {0} × (Unit {0} × (Unit {0} × (Unit {0} × (List ℕ × Unit {0}))))). ‵ (lasts thin.ended κt (thin-args r) zs)
+        ⊛ raw (fact 𝓤 (Told (r .lv) (r .nv) n (zs .1 .1 .1 .1 .0))))) (id⊢ 𝓤 _) $ pick ! (λ zs.
         split ! $ move ! (1 ∷ []) $ heard ! (Told (r .lv) (r .nv) n (zs .1 .1 .1 .1 .0)) (λ e′.
         fsplit ! $ move ! (1 ∷ []) $ fsplit ! $ move ! (1 ∷ []) $ fsplit ! $ move ! (1 ∷ []) $ fsplit ! $ move ! (1 ∷ []) $ fsplit ! $ fsplit ! $ move ! (1 ∷ []) $ feqL ! (λ l.
         -- [the last list; true; …; …; …; …; the tokens and the result; the masks'; what the rows own; _9; …]

@@ -12,4 +12,5 @@ expect-requires c κs =
 pub compare-spec : {M : Type 1} → statement M
 compare-spec =
     tie.close
-    (tie.spec (λ c κs. search needs) (λ c κs. search needs) (λ c. search needs) (λ c κs. search needs) (λ c κs. search needs) (λ c. search needs) (λ c κs. search needs) expect-requires (λ c. search needs))
+    (tie.spec (λ c κs. search needs) (λ c κs. search needs) (λ c. search needs) (λ c κs. search needs) (λ c κs. search needs) (λ c. search needs)
+    (λ c κs. search needs) expect-requires (λ c. search needs))

@@ -28,4 +28,9 @@ compare-requires-3 c κs =
 pub main-spec : {M : Type 1} → statement M
 main-spec =
     tie.close
-    (tie.spec (λ c. search needs) (λ c. search needs) (λ c. search needs) (λ c. search needs) (λ c. search needs) (λ c. search needs) (λ c. search needs) (λ c. search needs) (λ c. search needs) (λ c. search needs) (λ c. search needs) (λ c. search needs) (λ c κs. search needs) (λ c. search needs) (λ c κs. search needs) (λ c. search needs) (λ c. search needs) (λ c. search needs) (λ c. search needs) (λ c. search needs) (λ c. search needs) (λ c κs. search needs) (λ c. search needs) (λ c. search needs) (λ c. search needs) compare-requires (λ c. search needs) (λ c. search needs) (λ c. search needs) compare-requires-2 (λ c. search needs) (λ c. search needs) (λ c. search needs) compare-requires-3 (λ c. search needs))
+    (tie.spec (λ c. search needs) (λ c. search needs) (λ c. search needs) (λ c. search needs) (λ c. search needs) (λ c. search needs)
+    (λ c. search needs) (λ c. search needs) (λ c. search needs) (λ c. search needs) (λ c. search needs) (λ c. search needs) (λ c κs. search needs)
+    (λ c. search needs) (λ c κs. search needs) (λ c. search needs) (λ c. search needs) (λ c. search needs) (λ c. search needs) (λ c. search needs)
+    (λ c. search needs) (λ c κs. search needs) (λ c. search needs) (λ c. search needs) (λ c. search needs) compare-requires (λ c. search needs)
+    (λ c. search needs) (λ c. search needs) compare-requires-2 (λ c. search needs) (λ c. search needs) (λ c. search needs) compare-requires-3
+    (λ c. search needs))

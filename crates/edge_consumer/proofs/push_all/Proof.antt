@@ -13,7 +13,8 @@ use Rattle.edge_consumer.proofs.push_all.Tie as tie
 
 abbrev Inv-loop : tie.InvT-loop
 Inv-loop letters values d₀ n i₀ d i =
-    (i ≤ n) × (n ≡ length values) × (length letters ≡ length values) × (takenAll d₀ (yieldedBy letters values) ≡ takenAll d (yieldedBy (drop i letters) (drop i values)))
+    (i ≤ n) × (n ≡ length values) × (length letters ≡ length values)
+    × (takenAll d₀ (yieldedBy letters values) ≡ takenAll d (yieldedBy (drop i letters) (drop i values)))
 
 abbrev μ-loop : tie.MeasureT-loop
 μ-loop letters values d₀ n i₀ d i = n - i
@@ -41,4 +42,5 @@ returns c =
 pub push-all-spec : {M : Type 1} → statement M
 push-all-spec =
     tie.close
-    (tie.spec Inv-loop μ-loop loop-holds (λ c. omega arith) (λ c. omega arith) (λ c. omega arith) (λ c κs. search needs) (λ c. omega arith) (λ c. omega arith) loop-again returns)
+    (tie.spec Inv-loop μ-loop loop-holds (λ c. omega arith) (λ c. omega arith) (λ c. omega arith) (λ c κs. search needs) (λ c. omega arith)
+    (λ c. omega arith) loop-again returns)

@@ -28,19 +28,22 @@ returns-4 : tie.Need-returns-4
 returns-4 c =
     let d = c .before in
     let b = d .before .before in
-    first-refused _ _ _ _ _ _ (sym (b .before .before .sizes .ensures) ∙ b .before .if1 .left) (omega arith) (sym (d .before .contents .ensures) ∙ d .if3 .left) (omega arith)
+    first-refused _ _ _ _ _ _ (sym (b .before .before .sizes .ensures) ∙ b .before .if1 .left) (omega arith)
+    (sym (d .before .contents .ensures) ∙ d .if3 .left) (omega arith)
 
 returns-5 : tie.Need-returns-5
 returns-5 c =
     let d = c .before .before in
     let b = d .before .before in
-    second-refused _ _ _ _ _ _ (sym (b .before .before .sizes .ensures) ∙ b .before .if1 .left) (omega arith) (sym (d .before .contents .ensures) ∙ d .if3 .left) (omega arith) (omega arith)
+    second-refused _ _ _ _ _ _ (sym (b .before .before .sizes .ensures) ∙ b .before .if1 .left) (omega arith)
+    (sym (d .before .contents .ensures) ∙ d .if3 .left) (omega arith) (omega arith)
 
 returns-6 : tie.Need-returns-6
 returns-6 c =
     let d = c .before .before in
     let b = d .before .before in
-    accepted _ _ _ _ _ _ (sym (b .before .before .sizes .ensures) ∙ b .before .if1 .left) (omega arith) (sym (d .before .contents .ensures) ∙ d .if3 .left) (omega arith) (omega arith)
+    accepted _ _ _ _ _ _ (sym (b .before .before .sizes .ensures) ∙ b .before .if1 .left) (omega arith)
+    (sym (d .before .contents .ensures) ∙ d .if3 .left) (omega arith) (omega arith)
 
 pub refusal-spec : {M : Type 1} → statement M
 refusal-spec =

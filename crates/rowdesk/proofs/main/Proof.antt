@@ -13,4 +13,5 @@ slice-aggregate-begin c = let n = c .before .before in fits-bytes _ _ _ (n .n .g
 pub main-spec : {M : Type 1} → statement M
 main-spec =
     tie.close
-    (tie.spec (λ c. search needs) (λ c κs. search needs) (λ c. search needs) array-share-prefix-masks slice-aggregate-begin (λ c κs. search needs) (λ c κs. search needs) (λ c. search needs) (λ c. search needs) (λ c. search needs))
+    (tie.spec (λ c. search needs) (λ c κs. search needs) (λ c. search needs) array-share-prefix-masks slice-aggregate-begin (λ c κs. search needs)
+    (λ c κs. search needs) (λ c. search needs) (λ c. search needs) (λ c. search needs))

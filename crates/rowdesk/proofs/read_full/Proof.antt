@@ -53,4 +53,5 @@ returns-3 c = counts _ _ (c .before .loop .inv .0)
 pub read-full-spec : {M : Type 1} → statement M
 read-full-spec =
     tie.close
-    (tie.spec Inv-loop μ-loop loop-holds (λ c. search needs) (λ c. search needs) (λ c. search needs) (λ c κs. search needs) (λ c. search needs) (λ c. search needs) returns add-n loop-less loop-again (λ c. search needs) (λ c. search needs) returns-2 (λ c. search needs) returns-3)
+    (tie.spec Inv-loop μ-loop loop-holds (λ c. search needs) (λ c. search needs) (λ c. search needs) (λ c κs. search needs) (λ c. search needs)
+    (λ c. search needs) returns add-n loop-less loop-again (λ c. search needs) (λ c. search needs) returns-2 (λ c. search needs) returns-3)

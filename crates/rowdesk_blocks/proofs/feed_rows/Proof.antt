@@ -47,4 +47,5 @@ returns-2 c =
 pub feed-rows-spec : {M : Type 1} → statement M
 feed-rows-spec =
     tie.close
-    (tie.spec Inv-loop μ-loop loop-holds (λ c. search needs) returns (λ c. search needs) (λ c. search needs) (λ c. search needs) (λ c. search needs) (λ c. search needs) feed-requires (λ c. search needs) (λ c. search needs) loop-again (λ c. search needs) returns-2)
+    (tie.spec Inv-loop μ-loop loop-holds (λ c. search needs) returns (λ c. search needs) (λ c. search needs) (λ c. search needs) (λ c. search needs)
+    (λ c. search needs) feed-requires (λ c. search needs) (λ c. search needs) loop-again (λ c. search needs) returns-2)

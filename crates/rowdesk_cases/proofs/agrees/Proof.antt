@@ -80,4 +80,7 @@ returns-3 c e =
 pub agrees-spec : {M : Type 1} → statement M
 agrees-spec =
     tie.close
-    (tie.spec Inv-loop μ-loop (λ c κs. search needs) (λ c. search needs) (λ c. search needs) (λ c. search needs) (λ c κs. search needs) array-share-prefix-refusal slice-aggregate-stands (λ c κs. search needs) returns loop-holds (λ c κs. search needs) (λ c. search needs) (λ c. search needs) (λ c. search needs) (λ c. search needs) feed-requires array-share-prefix-text slice-aggregate-stands-2 (λ c κs. search needs) returns-2 add-printed loop-less loop-again returns-3)
+    (tie.spec Inv-loop μ-loop (λ c κs. search needs) (λ c. search needs) (λ c. search needs) (λ c. search needs) (λ c κs. search needs)
+    array-share-prefix-refusal slice-aggregate-stands (λ c κs. search needs) returns loop-holds (λ c κs. search needs) (λ c. search needs)
+    (λ c. search needs) (λ c. search needs) (λ c. search needs) feed-requires array-share-prefix-text slice-aggregate-stands-2
+    (λ c κs. search needs) returns-2 add-printed loop-less loop-again returns-3)

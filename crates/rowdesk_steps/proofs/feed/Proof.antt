@@ -35,4 +35,5 @@ returns-3 c =
 pub feed-spec : {M : Type 1} → statement M
 feed-spec =
     tie.close
-    (tie.spec (λ c κs. search needs) (λ c. search needs) returns (λ c. search needs) (λ c κs. search needs) (λ c κs. search needs) (λ c. search needs) returns-2 (λ c κs. search needs) (λ c. search needs) returns-3)
+    (tie.spec (λ c κs. search needs) (λ c. search needs) returns (λ c. search needs) (λ c κs. search needs) (λ c κs. search needs) (λ c. search needs)
+    returns-2 (λ c κs. search needs) (λ c. search needs) returns-3)

@@ -54,4 +54,6 @@ returns c = sym (putNext (c .before .before .put2) _ _ 0 (constraint-wrapper-col
 pub eval-context-spec : {M : Type 1} → statement M
 eval-context-spec =
     tie.close
-    (tie.spec (λ c κs. search needs) (λ c κs. search (needs, one-shared)) (λ c. search needs) (λ c κs. search needs) constraint-tx-init-requires (λ c κs. search needs) constraint-ext-lines-requires constraint-env-idx-requires (λ c. search needs) put-requires-2 (λ c. search needs) returns)
+    (tie.spec (λ c κs. search needs) (λ c κs. search (needs, one-shared)) (λ c. search needs) (λ c κs. search needs) constraint-tx-init-requires
+    (λ c κs. search needs) constraint-ext-lines-requires constraint-env-idx-requires (λ c. search needs) put-requires-2 (λ c. search needs)
+    returns)

@@ -22,7 +22,11 @@ room c = omega (arith, c .pre .1 .1)
 
 pc-requires : tie.Need-constraint-env-unchanged-pc-requires
 unfolding values constraint-env-unchanged-clk
-pc-requires c κs = (c .before .before .before .before .before .before .before .before .before .pre .0, one-shared (ap (λ (l : List ℕ). getD l 0 0) (c .before .before .before .before .before .constraint-env-unchanged-clk .ensures)))
+pc-requires c κs = (
+  c .before .before .before .before .before .before .before .before .before .pre .0,
+  one-shared
+      (ap (λ (l : List ℕ). getD l 0 0) (c .before .before .before .before .before .constraint-env-unchanged-clk .ensures)),
+)
 
 returns : tie.Need-returns
 unfolding flow

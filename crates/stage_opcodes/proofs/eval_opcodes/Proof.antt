@@ -23,8 +23,21 @@ tape-requires c κs =
 
 call-sc-requires : tie.Need-eval-packed-generic-requires-3
 call-sc-requires c κs =
-    let s = c .before .before .before .before .before .before .before .before .before .before .before .before .before .before .before .before .before .before in
-    (s .pre .0, (s .pre .1 .1 .0, (c .before .before .before .before .before .before .before .factors .ensures, omega (arith, s .pre .1 .1 .1, c .before .before .before .before .before .before .before .before .before .out .given, c .before .before .before .out2 .given))))
+    let s = c .before .before .before .before .before .before .before .before .before .before .before .before .before .before .before .before .before .before in (
+      s .pre .0,
+      (
+        s .pre .1 .1 .0,
+        (
+          c .before .before .before .before .before .before .before .factors .ensures,
+          omega (
+            arith,
+            s .pre .1 .1 .1,
+            c .before .before .before .before .before .before .before .before .before .out .given,
+            c .before .before .before .out2 .given,
+          ),
+        ),
+      ),
+    )
 
 returns : tie.Need-returns
 unfolding opcodes

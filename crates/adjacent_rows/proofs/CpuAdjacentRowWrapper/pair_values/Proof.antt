@@ -140,7 +140,8 @@ module _ {M : Type 1} (𝓤 : URA M) (H : Heap 𝓤) (A : Atoms 𝓤) (W : Given
       → ent 𝓤 (⋆ 𝓤 H A (‵ (u64 .own n (u ∷ [])) ∷ (‵ (flft κᵐ qᵐ) ⊛ ‵ (flft κ q) ⊛ ‵ (flft κ′ q′) ⊛ ‵ (flft κᵒ qᵒ) ⊛ ‵ ftrue) ∷ ‵ (finally u64 γ zs) ∷ (‵ Masks ⊛ ‵ Own) ∷ [])) (Post u)
   exits n u zs e l =
       qed W (‵ (u64 .own n (u ∷ [])) ∷ (‵ (flft κᵐ qᵐ) ⊛ ‵ (flft κ q) ⊛ ‵ (flft κ′ q′) ⊛ ‵ (flft κᵒ qᵒ) ⊛ ‵ ftrue) ∷ ‵ (finally u64 γ zs) ∷ (‵ Masks ⊛ ‵ Own) ∷ []) ∵
-      suffices ! _ (ends-at 𝓤 H A it.ended stayed (it.clauses 𝓤 H A mem run) W ((κs, (q, (q′, (qᵐ, (qᵒ, tt)))), tt, args, at), tt) u n (tt, (tt, (tt, (tt, (zs, tt))))) (tt, (tt, (tt, (tt, (l, tt)))))) $ says ! e $
+      suffices ! _ (ends-at 𝓤 H A it.ended stayed (it.clauses 𝓤 H A mem run) W ((κs, (q, (q′, (qᵐ, (qᵒ, tt)))), tt, args, at), tt) u n
+      (tt, (tt, (tt, (tt, (zs, tt))))) (tt, (tt, (tt, (tt, (l, tt)))))) $ says ! e $
       move ! (1 ∷ []) $ split ! $ move ! (1 ∷ []) $ split ! $ move ! (1 ∷ []) $ split ! $
       -- [κ′'s; κᵒ's and true; κ's; κᵐ's; the result; the last list; the masks' and the record's]
       move ! (3 ∷ 1 ∷ []) $ join ! $ move ! (1 ∷ 0 ∷ []) $ join ! $ move ! (1 ∷ 0 ∷ []) $ join ! $ frame ! $
@@ -164,7 +165,9 @@ module _ {M : Type 1} (𝓤 : URA M) (H : Heap 𝓤) (A : Atoms 𝓤) (W : Given
         (and-then ! (load ! (from ! (stop !)) (look ! 12 refl)) (and-then ! (load ! (from ! (stop !)) (look ! 2 refl)) (no-more !))))))) (λ u.
         use1 W (later (some (λ (n : ℕ). ((‵ (flft κᵐ qᵐ) ⊛ ‵ (flft κ q) ⊛ ‵ (flft κ′ q′) ⊛ ‵ (flft κᵒ qᵒ) ⊛ ‵ ftrue) ⊛ ‵ (u64 .own n (u ∷ []))) ⊛ raw (ensured 𝓤 H A core.ended (core.clauses 𝓤 H A mem run) κc core-args tt n)))) (id⊢ 𝓤 _) $ await ! tt $ pick ! (λ n.
         -- what the core ensures, at some last list
-        split ! $ move ! (1 ∷ []) $ use1 W (some (λ (zs : Unit {0} × (Unit {0} × (Unit {0} × (Unit {0} × (Unit {0} × (List ℕ × Unit {0})))))). ‵ (lasts core.ended κc core-args zs) ⊛ raw (fact 𝓤 (Told n (zs .1 .1 .1 .1 .1 .0))))) (id⊢ 𝓤 _) $ pick ! (λ zs.
+        split ! $ move ! (1 ∷ []) $
+        use1 W (some (λ (zs : Unit {0} × (Unit {0} × (Unit {0} × (Unit {0} × (Unit {0} × (List ℕ × Unit {0})))))). ‵ (lasts core.ended κc core-args zs)
+        ⊛ raw (fact 𝓤 (Told n (zs .1 .1 .1 .1 .1 .0))))) (id⊢ 𝓤 _) $ pick ! (λ zs.
         split ! $ move ! (1 ∷ []) $ heard ! (Told n (zs .1 .1 .1 .1 .1 .0)) (λ e.
         fsplit ! $ move ! (1 ∷ []) $ fsplit ! $ move ! (1 ∷ []) $ fsplit ! $ move ! (1 ∷ []) $ fsplit ! $ move ! (1 ∷ []) $ fsplit ! $ move ! (1 ∷ []) $ fsplit ! $ fsplit ! $ move ! (1 ∷ []) $ feqL ! (λ l.
         -- [the last list; true; …; …; …; …; …; the tokens and the result; the masks' and the record's; _9; …]

@@ -12,4 +12,13 @@ use Rattle.edges.proofs.folds.worked.Tie as tie
 pub worked-spec : {M : Type 1} → statement M
 worked-spec =
     tie.close
-    (tie.spec (λ c. search needs) (λ c. search needs) (λ c. search needs) (λ c. search needs) (λ c. search needs) (λ c κs. search needs) (λ c. search needs) (λ c. search needs) (λ c κs. search needs) (λ c. search needs) (λ c. search needs) (λ c κs. search needs) (λ c. search needs) (λ c. search needs) (λ c κs. search needs) (λ c. search needs) (λ c κs. eq-eqb _ _ (ap (λ (l : List ℕ). getD l 0 0) (c .before .before .before .before .before .before .before .pair-fold .ensures .accumulators ∙ worked-pairs .zero-row-folds))) (λ c. search needs) (λ c κs. eq-eqb _ _ (ap (λ (l : List ℕ). getD l 1 0) (c .before .before .before .before .before .before .before .before .pair-fold .ensures .accumulators ∙ worked-pairs .zero-row-folds))) (λ c. search needs) (λ c κs. eq-eqb _ _ (ap (λ (l : List ℕ). getD l 2 0) (c .before .before .before .before .before .before .before .before .before .pair-fold .ensures .accumulators ∙ worked-pairs .zero-row-folds))) (λ c. search needs))
+    (tie.spec (λ c. search needs) (λ c. search needs) (λ c. search needs) (λ c. search needs) (λ c. search needs) (λ c κs. search needs)
+    (λ c. search needs) (λ c. search needs) (λ c κs. search needs) (λ c. search needs) (λ c. search needs) (λ c κs. search needs)
+    (λ c. search needs) (λ c. search needs) (λ c κs. search needs) (λ c. search needs)
+    (λ c κs. eq-eqb _ _ (ap (λ (l : List ℕ). getD l 0 0)
+    (c .before .before .before .before .before .before .before .pair-fold .ensures .accumulators ∙ worked-pairs .zero-row-folds)))
+    (λ c. search needs) (λ c κs. eq-eqb _ _ (ap (λ (l : List ℕ). getD l 1 0)
+    (c .before .before .before .before .before .before .before .before .pair-fold .ensures .accumulators ∙ worked-pairs .zero-row-folds)))
+    (λ c. search needs) (λ c κs. eq-eqb _ _ (ap (λ (l : List ℕ). getD l 2 0)
+    (c .before .before .before .before .before .before .before .before .before .pair-fold .ensures .accumulators ∙ worked-pairs .zero-row-folds)))
+    (λ c. search needs))

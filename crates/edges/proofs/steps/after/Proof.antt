@@ -39,4 +39,5 @@ returns c = let l = c .before .loop in let e : l .i ≡ c .before .before .befor
 pub after-spec : {M : Type 1} → statement M
 after-spec =
     tie.close
-    (tie.spec Inv-loop μ-loop (λ c. search needs) (λ c κs. search needs) loop-holds (λ c. search needs) (λ c. search needs) feed-requires (λ c. search needs) (λ c. search needs) loop-again returns)
+    (tie.spec Inv-loop μ-loop (λ c. search needs) (λ c κs. search needs) loop-holds (λ c. search needs) (λ c. search needs) feed-requires
+    (λ c. search needs) (λ c. search needs) loop-again returns)

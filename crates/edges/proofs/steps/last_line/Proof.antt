@@ -31,4 +31,5 @@ slice-aggregate-write-all c = put-counts (omega arith) (c .before .before .befor
 pub last-line-spec : {M : Type 1} → statement M
 last-line-spec =
     tie.close
-    (tie.spec (λ c κs. search needs) (λ c. search needs) (λ c κs. search needs) array-share-prefix-out slice-aggregate-same (λ c κs. search needs) expect-requires (λ c κs. search needs) array-share-prefix-out-2 slice-aggregate-write-all (λ c κs. search needs) (λ c. search needs))
+    (tie.spec (λ c κs. search needs) (λ c. search needs) (λ c κs. search needs) array-share-prefix-out slice-aggregate-same (λ c κs. search needs)
+    expect-requires (λ c κs. search needs) array-share-prefix-out-2 slice-aggregate-write-all (λ c κs. search needs) (λ c. search needs))

@@ -9,4 +9,7 @@ use Rattle.edges.proofs.values.nonzero.Tie as tie
 pub nonzero-spec : {M : Type 1} → statement M
 nonzero-spec =
     tie.close
-    (tie.spec (λ c. search needs) (λ c. search needs) (λ c. search needs) (λ c. search needs) (λ c κs. search needs) (λ c. search needs) (λ c κs. search needs) (λ c. search needs) (λ c κs. search needs) (λ c. ap (λ (t : Tally). t .count) (c .before .before .count-nonzero .ensures) ∙ ap nonzeros (c .before .before .before .before .before .pair-values .ensures .buffer)))
+    (tie.spec (λ c. search needs) (λ c. search needs) (λ c. search needs) (λ c. search needs) (λ c κs. search needs) (λ c. search needs)
+    (λ c κs. search needs) (λ c. search needs) (λ c κs. search needs)
+    (λ c. ap (λ (t : Tally). t .count) (c .before .before .count-nonzero .ensures) ∙ ap nonzeros
+    (c .before .before .before .before .before .pair-values .ensures .buffer)))
