@@ -1,4 +1,4 @@
-/* The constraint values of pairs of CPU rows, their folds, verdicts and reports.
+/* The constraint values of pairs of CPU rows, their signed forms, folds, verdicts and reports.
  *
  * The functions are in target/staticlib/libffi.a, which `rt staticlib ffi` makes.
  *
@@ -22,6 +22,9 @@ extern "C" {
 
 #define FELMUGO_P UINT64_C(18446744069414584321)
 
+/* The greatest signed number, half of p - 1; the least is its negative. */
+#define FELMUGO_GREATEST INT64_C(9223372034707292160)
+
 enum {
     FELMUGO_ROW = 94,
     FELMUGO_MASKS = 25,
@@ -38,7 +41,8 @@ enum {
     FELMUGO_ALPHA_COUNT = 4,    /* alphas: not 1 to 8, or accumulators differ in count */
     FELMUGO_MASK_CONTENTS = 5,  /* masks: one not below p, or two of the first five equal */
     FELMUGO_ROW_CONTENTS = 6,   /* row contents: one not below p */
-    FELMUGO_NOT_BELOW_P = 7,    /* weights, alphas, accumulators, a lone operand: one not below p */
+    FELMUGO_NOT_BELOW_P = 7,    /* weights, alphas, accumulators, a lone operand: one not below p; a
+                                   signed number outside the range */
     FELMUGO_FLAGS_NOT_PLAIN = 8 /* judge: flags not plain */
 };
 
@@ -47,6 +51,12 @@ typedef struct {
     uint64_t number;
     uint64_t value;
 } FelmugoResidue;
+
+/* A signed number, or the number of the refusal with the value 0. */
+typedef struct {
+    uint64_t number;
+    int64_t value;
+} FelmugoSigned;
 
 /* A verdict, or the number of the refusal. */
 typedef struct {
@@ -69,6 +79,14 @@ typedef struct {
 FelmugoResidue felmugo_add(uint64_t a, uint64_t b);
 FelmugoResidue felmugo_sub(uint64_t a, uint64_t b);
 FelmugoResidue felmugo_mul(uint64_t a, uint64_t b);
+
+/* The signed form of a residue: itself up to FELMUGO_GREATEST, a larger one minus p.
+ * Refuses: 7 a residue not below p. */
+FelmugoSigned felmugo_signed(uint64_t residue);
+
+/* The residue of a signed number: itself, a negative one plus p. The two maps undo each other.
+ * Refuses: 7 a number outside -FELMUGO_GREATEST to FELMUGO_GREATEST. */
+FelmugoResidue felmugo_unsigned(int64_t value);
 
 /* Writes the 226 values of the pair of rows lv (current) and nv (next) to the first places of out,
  * each with its weight applied: a transition value times z_last, a first-row value times

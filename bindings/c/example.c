@@ -14,9 +14,13 @@ static uint64_t print_values(void) {
     uint64_t values[FELMUGO_VALUES];
     uint64_t number = felmugo_pair_values(masks, FELMUGO_MASKS, row, FELMUGO_ROW, row, FELMUGO_ROW,
                                           z_last, lagrange_basis_first, values, FELMUGO_VALUES);
-    for (int i = 0; number == 0 && i < FELMUGO_VALUES; i++)
-        if (values[i] != 0)
-            printf("value %d is %" PRIu64 "\n", i + 1, values[i]);
+    for (int i = 0; number == 0 && i < FELMUGO_VALUES; i++) {
+        FelmugoSigned form = felmugo_signed(values[i]);
+        if (form.number != 0)
+            number = form.number;
+        else if (values[i] != 0)
+            printf("value %d is %" PRIu64 ", signed %" PRId64 "\n", i + 1, values[i], form.value);
+    }
     return number;
 }
 

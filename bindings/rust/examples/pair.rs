@@ -1,6 +1,7 @@
 //! The pair of zero rows that document 01 works out: its values, folds, verdict and report.
 
-use felmugo::{pair_fold, pair_judge, pair_values, run_report, Refusal, MASKS, ROW, VALUES};
+use felmugo::{pair_fold, pair_judge, pair_values, run_report, signed};
+use felmugo::{Refusal, MASKS, ROW, VALUES};
 
 const ROW_OF_ZEROS: [u64; ROW] = [0; ROW];
 
@@ -21,7 +22,7 @@ fn print_values(masks: &[u64]) -> Result<(), Refusal> {
     let mut values = [0; VALUES];
     pair_values(masks, row, row, Z_LAST, LAGRANGE_BASIS_FIRST, &mut values)?;
     for (i, value) in values.iter().enumerate().filter(|(_, value)| **value != 0) {
-        println!("value {} is {value}", i + 1);
+        println!("value {} is {value}, signed {}", i + 1, signed(*value)?);
     }
     Ok(())
 }

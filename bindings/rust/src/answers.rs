@@ -1,6 +1,6 @@
 //! The answers in types.
 
-use crate::flat::{FelmugoReport, FelmugoResidue, FelmugoVerdict};
+use crate::flat::{FelmugoReport, FelmugoResidue, FelmugoSigned, FelmugoVerdict};
 use crate::Refusal;
 
 /// What the judge says of a pair.
@@ -34,6 +34,12 @@ pub struct Spot {
 
 impl From<FelmugoResidue> for Result<u64, Refusal> {
     fn from(flat: FelmugoResidue) -> Self {
+        Refusal::or(flat.number, flat.value)
+    }
+}
+
+impl From<FelmugoSigned> for Result<i64, Refusal> {
+    fn from(flat: FelmugoSigned) -> Self {
         Refusal::or(flat.number, flat.value)
     }
 }

@@ -5,7 +5,7 @@
 
 mod exports;
 
-pub use exports::{FelmugoReport, FelmugoResidue, FelmugoVerdict};
+pub use exports::{FelmugoReport, FelmugoResidue, FelmugoSigned, FelmugoVerdict};
 
 // SAFETY, for every call below: the functions take any numbers, read and write only within
 // the lengths that they are given, and keep no pointer.
@@ -23,6 +23,16 @@ pub fn sub(a: u64, b: u64) -> FelmugoResidue {
 /// The answer of [`mul`](crate::mul).
 pub fn mul(a: u64, b: u64) -> FelmugoResidue {
     unsafe { exports::felmugo_mul(a, b) }
+}
+
+/// The answer of [`signed`](crate::signed).
+pub fn signed(residue: u64) -> FelmugoSigned {
+    unsafe { exports::felmugo_signed(residue) }
+}
+
+/// The answer of [`unsigned`](crate::unsigned).
+pub fn unsigned(value: i64) -> FelmugoResidue {
+    unsafe { exports::felmugo_unsigned(value) }
 }
 
 /// The number of [`pair_values`](crate::pair_values).

@@ -1,9 +1,10 @@
-//! The constraint values of pairs of CPU rows, their folds, verdicts and reports: the safe
-//! functions over `libffi.a`, whose code is proved to meet its contracts.
+//! The constraint values of pairs of CPU rows, their signed forms, folds, verdicts and reports: the
+//! safe functions over `libffi.a`, whose code is proved to meet its contracts.
 //!
 //! p is [`P`], 2^64 − 2^32 + 1. A row is 94 values, a list of masks 25, and the values of a pair
-//! are 226, all below p. A call that is not answered is refused by a [`Refusal`]: of the reasons
-//! that apply, the lowest number. A refused call leaves lent memory as it was.
+//! are 226, all below p. As a signed number a residue is one of −[`GREATEST`] to [`GREATEST`]
+//! ([`signed`], [`unsigned`]). A call that is not answered is refused by a [`Refusal`]: of the
+//! reasons that apply, the lowest number. A refused call leaves lent memory as it was.
 //!
 //! `examples/pair.rs` works out a pair of zero rows.
 
@@ -16,6 +17,8 @@ pub use refusal::Refusal;
 
 /// p: every value is a number below it.
 pub const P: u64 = 0xffff_ffff_0000_0001;
+/// The greatest signed number, half of p − 1; the least is its negative.
+pub const GREATEST: i64 = 9223372034707292160;
 /// The values of a row.
 pub const ROW: usize = 94;
 /// The masks of a list.
@@ -46,6 +49,21 @@ pub fn sub(a: u64, b: u64) -> Result<u64, Refusal> {
 /// Refuses an operand not below p ([`Refusal::NotBelowP`]).
 pub fn mul(a: u64, b: u64) -> Result<u64, Refusal> {
     flat::mul(a, b).into()
+}
+
+/// The signed form of a residue: itself up to [`GREATEST`], a larger one minus p. [`unsigned`] is
+/// the way back.
+///
+/// Refuses a residue not below p ([`Refusal::NotBelowP`]).
+pub fn signed(residue: u64) -> Result<i64, Refusal> {
+    flat::signed(residue).into()
+}
+
+/// The residue of a signed number: itself, a negative one plus p. [`signed`] is the way back.
+///
+/// Refuses a number outside −[`GREATEST`] to [`GREATEST`] ([`Refusal::NotBelowP`]).
+pub fn unsigned(value: i64) -> Result<u64, Refusal> {
+    flat::unsigned(value).into()
 }
 
 /// Writes the 226 values of the pair of rows `lv` (current) and `nv` (next) to the first places

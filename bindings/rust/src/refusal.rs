@@ -21,7 +21,8 @@ pub enum Refusal {
     MaskContents = 5,
     /// 6: a value of a row not below p.
     RowContents = 6,
-    /// 7: a weight, an alpha, an accumulator or a lone operand not below p.
+    /// 7: a weight, an alpha, an accumulator or a lone operand not below p; a signed number outside
+    /// the range.
     NotBelowP = 7,
     /// 8: the judge's flags not plain.
     FlagsNotPlain = 8,
@@ -72,7 +73,8 @@ impl fmt::Display for Refusal {
             Self::MaskContents => "masks: one not below p, or two of the first five equal",
             Self::RowContents => "row contents: one not below p",
             Self::NotBelowP => {
-                "weights, alphas, accumulators, a lone operand or folded value: one not below p"
+                "weights, alphas, accumulators, a lone operand or folded value: one not below p; \
+                 a signed number outside the range"
             }
             Self::FlagsNotPlain => "judge: flags not plain",
         })

@@ -23,6 +23,26 @@ fn residues_are_canonical_or_refused() {
 }
 
 #[test]
+fn signed_numbers_and_residues_map_to_each_other() {
+    for (residue, value) in [
+        (0, 0),
+        (1, 1),
+        (9223372034707292160, 9223372034707292160),
+        (9223372034707292161, -9223372034707292160),
+        (P - 1, -1),
+    ] {
+        assert_eq!(signed(residue), Ok(value));
+        assert_eq!(unsigned(value), Ok(residue));
+    }
+    for not_below_p in [P, P + 1, u64::MAX] {
+        assert_eq!(signed(not_below_p), Err(Refusal::NotBelowP));
+    }
+    for outside in [GREATEST + 1, -GREATEST - 1, i64::MAX, i64::MIN] {
+        assert_eq!(unsigned(outside), Err(Refusal::NotBelowP));
+    }
+}
+
+#[test]
 fn the_zero_row_has_two_values() {
     let row = [0; ROW];
     let mut out = [7; VALUES + 1];

@@ -1,10 +1,11 @@
--- Lists in which no element occurs twice: where each element also stands in a second list, that one is at least as long.
+-- What is said of the elements of lists; and lists in which no element occurs twice: where each element also stands in a second list,
+-- that one is at least as long.
 use mathlib.Core.Path.{_≡_, refl, sym, ap, _∙_}
 use mathlib.Core.Logic.{_⊎_, inl, inr, _≢_}
-use mathlib.Core.List.{List, [], _∷_, map}
+use mathlib.Core.List.{List, [], _∷_, _++_, map}
 use Prim.Native.Nat.{ℕ, zero, suc, _≤_, _<_, zero-le, suc-le-suc}
 use native.Mathlib.Nat.{eq-or-lt-of-le, le-of-suc-le-suc, not-suc-le-zero, le-step, le-refl}
-use lib.ListN.{length}
+use lib.ListN.{length, getD}
 use Rattle.algebra.specs.Lists.{All, Mem, NoDup}
 
 abbrev pub Subset : {A : Type 0} → List A → List A → Type 0
@@ -18,6 +19,35 @@ module _ {A : Type 0} where
   pub all-both : {P Q S : A → Type 0} → ((x : A) → P x → Q x → S x) → (xs : List A) → All P xs → All Q xs → All S xs
   all-both f [] h k = tt
   all-both f (x ∷ xs) h k = (f x (h .0) (k .0), all-both f xs (h .1) (k .1))
+
+  pub all-append : (P : A → Type 0) (xs ys : List A) → All P xs → All P ys → All P (xs ++ ys)
+  all-append P [] ys h k = k
+  all-append P (x ∷ xs) ys h k = (h .0, all-append P xs ys (h .1) k)
+
+  -- at any place, where it holds of what stands for none
+  pub all-at : (P : A → Type 0) (d : A) → P d → (xs : List A) → All P xs → (i : ℕ) → P (getD xs i d)
+  all-at P d h [] k i = h
+  all-at P d h (x ∷ xs) k zero = k .0
+  all-at P d h (x ∷ xs) k (suc i) = all-at P d h xs (k .1) i
+
+  pub all-of-mem : {P : A → Type 0} (xs : List A) → ((x : A) → Mem x xs → P x) → All P xs
+  all-of-mem [] h = tt
+  all-of-mem (x ∷ xs) h = (h x (inl refl), all-of-mem xs (λ y m. h y (inr m)))
+
+  -- the elements of two lists, one behind the other
+  pub mem-left : (x : A) (xs ys : List A) → Mem x xs → Mem x (xs ++ ys)
+  mem-left x [] ys m = absurd m
+  mem-left x (y ∷ xs) ys (inl e) = inl e
+  mem-left x (y ∷ xs) ys (inr m) = inr (mem-left x xs ys m)
+
+  pub mem-right : (x : A) (xs ys : List A) → Mem x ys → Mem x (xs ++ ys)
+  mem-right x [] ys m = m
+  mem-right x (y ∷ xs) ys m = inr (mem-right x xs ys m)
+
+  pub mem-cases : (x : A) (xs ys : List A) {B : Type 0} → (Mem x xs → B) → (Mem x ys → B) → Mem x (xs ++ ys) → B
+  mem-cases x [] ys f g m = g m
+  mem-cases x (y ∷ xs) ys f g (inl e) = f (inl e)
+  mem-cases x (y ∷ xs) ys f g (inr m) = mem-cases x xs ys (λ n. f (inr n)) g m
 
   abbrev pub remove : (x : A) (ys : List A) → Mem x ys → List A
   remove x [] m = []

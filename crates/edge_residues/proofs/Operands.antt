@@ -12,7 +12,7 @@ use Rattle.checked_residue.specs.Answer.{number, checked}
 use Rattle.checked_residue.proofs.Operands.{left-refused, right-refused}
 
 -- a test that what g reads off the answer r is m
-pub expected : (g : Residue → ℕ) {r s : Residue} {n m : ℕ} → r ≡ s → n ≡ g r → g s ≡ m → eqb n m ≡ true
+pub expected : {A : Type 0} (g : A → ℕ) {r s : A} {n m : ℕ} → r ≡ s → n ≡ g r → g s ≡ m → eqb n m ≡ true
 expected g e q h = eq-eqb _ _ (q ∙ ap g e ∙ h)
 
 -- the number of each operation f where an operand is not below p

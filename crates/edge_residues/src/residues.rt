@@ -10,7 +10,7 @@ use checked_residue::Residue;
 use libc::STDOUT_FILENO;
 
 // Document 01's number of an answer.
-fn number(r: Residue) -> u64
+pub fn number(r: Residue) -> u64
     ensures { λ n. ⌜ n ≡ Answer·number r ⌝ }
 {
     match r {

@@ -2,16 +2,19 @@
 ghost use mathlib.Core.Path.{_≡_};
 ghost use Rattle.residue.specs.Residues.{addP, subP, mulP};
 ghost use Rattle.checked_residue.specs.Answer.{checked};
+ghost use Rattle.field_signed.specs.Answer.{toSigned, toResidue};
 ghost use Rattle.pair_checks.specs.PairValues.{PairValuesCall};
 ghost use Rattle.pair_fold_checks.specs.PairFold.{PairFoldCall};
 ghost use Rattle.judge.specs.Verdict.{verdictOf};
 ghost use Rattle.runs.specs.Report.{reportOf};
-ghost use Rattle.flat.specs.Flat.{flatResidue, flatVerdict, flatReport};
+ghost use Rattle.flat.specs.Flat.{flatResidue, flatSigned, flatVerdict, flatReport};
 use flat::FelmugoReport;
 use flat::FelmugoResidue;
+use flat::FelmugoSigned;
 use flat::FelmugoVerdict;
 use flat::flat_report;
 use flat::flat_residue;
+use flat::flat_signed;
 use flat::flat_verdict;
 
 #[no_mangle]
@@ -33,6 +36,20 @@ pub extern "C" fn felmugo_mul(a: u64, b: u64) -> FelmugoResidue
     ensures { λ r. ⌜ r ≡ flatResidue (checked mulP a b) ⌝ }
 {
     flat_residue(checked_residue::mul(a, b))
+}
+
+#[no_mangle]
+pub extern "C" fn felmugo_signed(residue: u64) -> FelmugoSigned
+    ensures { λ r. ⌜ r ≡ flatSigned (toSigned residue) ⌝ }
+{
+    flat_signed(field_signed_maps::signed(residue))
+}
+
+#[no_mangle]
+pub extern "C" fn felmugo_unsigned(value: i64) -> FelmugoResidue
+    ensures { λ r. ⌜ r ≡ flatResidue (toResidue value) ⌝ }
+{
+    flat_residue(field_signed_maps::unsigned(value))
 }
 
 #[no_mangle]

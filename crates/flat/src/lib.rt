@@ -1,10 +1,11 @@
 // Answers as flat structs, for C and Rust.
 ghost use mathlib.Core.Path.{_≡_};
-ghost use Rattle.flat.specs.Flat.{flatResidue, flatVerdict, flatReport};
+ghost use Rattle.flat.specs.Flat.{flatResidue, flatSigned, flatVerdict, flatReport};
 use answers::Report;
 use answers::Spot;
 use answers::Verdict;
 use checked_residue::Residue;
+use field_signed::Signed;
 
 // A residue, or the number of the refusal with the value 0.
 #[repr(C)]
@@ -23,6 +24,29 @@ pub fn flat_residue(r: Residue) -> FelmugoResidue
             value: v,
         },
         Residue::Refused(n) => FelmugoResidue {
+            number: n,
+            value: 0,
+        },
+    }
+}
+
+// A signed number, or the number of the refusal with the value 0.
+#[repr(C)]
+pub struct FelmugoSigned {
+    pub number: u64,
+    pub value: i64,
+}
+
+// The answer of the map to signed numbers as two numbers.
+pub fn flat_signed(s: Signed) -> FelmugoSigned
+    ensures { λ f. ⌜ f ≡ flatSigned s ⌝ }
+{
+    match s {
+        Signed::Value(z) => FelmugoSigned {
+            number: 0,
+            value: z,
+        },
+        Signed::Refused(n) => FelmugoSigned {
             number: n,
             value: 0,
         },

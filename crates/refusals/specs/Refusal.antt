@@ -3,6 +3,7 @@ use mathlib.Core.Bool.{Bool, true, false, cond, not, _&&_, _||_}
 use mathlib.Core.List.{List, [], _∷_}
 use Prim.Native.Nat.{ℕ, zero, suc, _/_, _%_}
 use lib.ListN.{length, take}
+use lib.IntN.{ℤ, natAbs}
 use lib.Dec.{eqb, ltb}
 use Rattle.algebra.specs.Prime.{p}
 
@@ -69,6 +70,14 @@ rowContents row = record { number = 6; holds = not (canonical row) }
 -- "weights, alphas, accumulators, a lone operand or folded value | 7 | one not below p"
 abbrev pub notBelowP : List ℕ → Condition
 notBelowP xs = record { number = 7; holds = not (canonical xs) }
+
+-- "Signed and residue form map to each other without loss over that whole range. .. A signed number outside the range is refused with 7."
+-- (document 02, 1/12): the range ends at 9223372034707292160, half of p - 1, and at its negative
+abbrev pub greatest : ℕ
+greatest = 9223372034707292160
+
+abbrev pub notInRange : ℤ → Condition
+notInRange z = record { number = 7; holds = ltb greatest (natAbs z) }
 
 -- "judge | 8 | flags not plain": whether they are plain
 abbrev pub flagsNotPlain : Bool → Condition

@@ -6,28 +6,53 @@ use mathlib.Core.List.{List, [], _∷_}
 use Prim.Native.Nat.{ℕ, zero, suc, _<_}
 use native.Mathlib.Nat.{le-of-suc-le-suc, not-suc-le-zero}
 use native.Mathlib.Omega.{arith}
-use lib.ListN.{length, getD, take}
+use lib.ListN.{length, length-map, getD, take}
 use lib.Seq.{getD-take, length-take-le}
 use lib.Dec.{eqb, ltb}
 use borrow.Author.Tests.{eq-eqb, not-true}
 use Rattle.algebra.specs.Prime.{p}
+use Rattle.algebra.specs.Lists.{All}
+use Rattle.algebra.specs.Expr.{eval}
 use Rattle.refusals.specs.Refusal.{member, distinct}
 use Rattle.refusals.proofs.Laws.{canonical-below}
 use Rattle.table.specs.Cells.{Cell, local, next, maskAt, zLast, lagrangeBasisFirst, cells}
 use Rattle.table.specs.Rows.{Row}
-use Rattle.table.specs.Table.{table}
+use Rattle.table.specs.Entry.{Entry, weightedBy, values}
+use Rattle.table.specs.Table.{table, pairValues}
+use Rattle.table.proofs.Numbers.{table-length}
+use Rattle.residue.specs.Residues.{residues}
 use Rattle.rulebook.specs.Kind.{ones}
 use Rattle.rulebook.specs.Plain.{bits, plainFlags, Accepted, pairPlain}
 use Rattle.rulebook.proofs.Tests.{and-left, and-right, or-left, all}
 use Rattle.rulebook.proofs.Cells.{line}
 use Rattle.rulebook.proofs.Open.{open-table}
 use Rattle.rulebook.proofs.Arithmetic.{Differ}
-use Rattle.rulebook.proofs.Weights.{fair}
+use Rattle.rulebook.proofs.Weights.{reads-rows, fair, value-lt}
 
 -- every entry of the table reads rows and masks only, and has a canonical value
 pub fair-table : all fair table ≡ true
 unfolding open-table
 fair-table = refl
+
+-- how many values a pair has, and that each is canonical where its cells are
+module _ (masks lv nv : List ℕ) (z f : ℕ) where
+  pub values-count : length (pairValues masks lv nv z f) ≡ 226
+  unfolding pairValues values
+  values-count = length-map table _ ∙ table-length
+
+  module _ (canon : (c : Cell) → cells masks lv nv z f c < p) where
+    values-below : (es : List Entry) → all fair es ≡ true → All (λ v. v < p) (values residues (cells masks lv nv z f) es)
+    unfolding values
+    values-below [] h = tt
+    values-below (e ∷ es) h = (
+      value-lt (cells masks lv nv z f) (cells masks lv nv z f) (λ c k. refl) canon (weightedBy (e .kind) (e .expr))
+          (and-right (reads-rows (e .expr)) _ (and-left (fair e) (all fair es) h)),
+      values-below es (and-right (fair e) _ h),
+    )
+
+    pub values-canonical : All (λ v. v < p) (pairValues masks lv nv z f)
+    unfolding pairValues
+    values-canonical = values-below table fair-table
 
 -- distinct numbers differ at any two places
 not-member : (a : ℕ) (l : List ℕ) → member a l ≡ false → (j : ℕ) → j < length l → a ≢ getD l j 0

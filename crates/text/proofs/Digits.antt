@@ -20,7 +20,8 @@ unfolding digitsOf
 small zero n h = refl
 small (suc f) n h = simp (lt-ltb _ _ h)
 
-digits-are : (k n f : ℕ) → n < 10 ^ suc k → (1 < suc k → 10 ^ (suc k - 1) ≤ n) → k ≤ f → digits 10 (suc k) n ≡ digitsOf f n
+digits-are : (k n f : ℕ) → n < 10 ^ suc k → (1 < suc k → 10 ^ (suc k - 1) ≤ n) → k ≤ f
+    → digits 10 (suc k) n ≡ digitsOf f n
 unfolding digitsOf
 digits-are zero n f a b c =
     let m : n % 10 ≡ n = omega arith in
@@ -34,7 +35,8 @@ digits-are (suc k) n (suc f) a b c =
     let z : 1 ≤ 10 ^ k = one-le-pow k 10 (omega arith) in
     let l : 10 ^ suc k ≤ n = rw s at (b (omega arith)) in
     simp (le-ltb n 10 (omega arith))
-    (ap₂ (λ (x : List ℕ) (y : ℕ). x ++ (y ∷ [])) (digits-are k (n / 10) f (omega arith) (λ h. rw t (omega arith)) (omega arith))
+    (ap₂ (λ (x : List ℕ) (y : ℕ). x ++ (y ∷ []))
+    (digits-are k (n / 10) f (omega arith) (λ h. rw t (omega arith)) (omega arith))
     (glyph-digit (n % 10) (omega arith)))
 
 pub decimal-is : (n r : ℕ) → Fewest 10 1 n r → r ≤ 20 → digits 10 r n ≡ decimalOf n
@@ -53,16 +55,28 @@ decimal-few n r w h = go (leb r 20) refl
         let k : 10 ^ (r - 1) ≤ n = w .2 (omega arith) in
         absurd (omega arith)
 
--- at most 20 digits
-digits-short : (k n : ℕ) → length (digitsOf k n) ≤ suc k
+-- a number has at most j + 1 digits where it is below 10 ^ (j + 1), or where it is taken to have no more
+digits-few : (k j n : ℕ) → (j < k → n < 10 ^ suc j) → length (digitsOf k n) ≤ suc j
 unfolding digitsOf
-digits-short zero n = omega arith
-digits-short (suc k) n = go (ltb n 10) (digits-short k (n / 10))
+digits-few zero j n h = omega arith
+digits-few (suc k) zero n h = let l : n < 10 = h (omega arith) in simp (lt-ltb _ _ l) (omega arith)
+digits-few (suc k) (suc j) n h = go (ltb n 10) (digits-few k j (n / 10) tenth)
   where
-    go : (b : Bool) → length (digitsOf k (n / 10)) ≤ suc k → length (cond b (digit n ∷ []) (digitsOf k (n / 10) ++ (digit (n % 10) ∷ []))) ≤ suc (suc k)
-    go true h = omega arith
-    go false h = rw length-append (omega arith)
+    tenth : j < k → n / 10 < 10 ^ suc j
+    tenth l =
+        let p : 10 ^ suc (suc j) ≡ 10 ^ suc j * 10 = pow-suc 10 (suc j) in
+        omega (arith, h (omega arith))
+
+    go : (b : Bool) → length (digitsOf k (n / 10)) ≤ suc j
+        → length (cond b (digit n ∷ []) (digitsOf k (n / 10) ++ (digit (n % 10) ∷ []))) ≤ suc (suc j)
+    go true l = omega arith
+    go false l = rw length-append (omega arith)
 
 pub decimal-short : (n : ℕ) → length (decimalOf n) ≤ 20
 unfolding decimalOf
-decimal-short n = digits-short 19 n
+decimal-short n = digits-few 19 19 n (λ l. absurd (omega arith))
+
+-- a number below 10 ^ (k + 1) has at most k + 1 digits
+pub decimal-below : (k n : ℕ) → n < 10 ^ suc k → length (decimalOf n) ≤ suc k
+unfolding decimalOf
+decimal-below k n h = digits-few 19 k n (λ l. h)

@@ -16,7 +16,8 @@ use Rattle.table.specs.Table.{pairValues}
 use Rattle.pair_checks.specs.PairValues.{pairValuesRefusal, pairValuesBuffer}
 use Rattle.rulebook.specs.Plain.{isFirst, isLast, pairKeeps}
 use Rattle.theorems.specs.Demand3.{Given}
-use Rattle.theorems.proofs.Demand3.{canonical-of, values-count, keeps-iff-zeros}
+use Rattle.rulebook.proofs.Pair.{values-count}
+use Rattle.theorems.proofs.Demand3.{canonical-of, keeps-iff-zeros}
 use Rattle.answers.specs.declared.Verdict.the-variants.{Keeps, Breaks, Refused}
 use Rattle.answers.specs.Verdict.{keepsOf}
 use Rattle.judge.specs.Verdict.{judgeRefusal, verdictOf}

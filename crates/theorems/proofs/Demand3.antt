@@ -24,8 +24,7 @@ use Rattle.table.proofs.Numbers.{table-length}
 use Rattle.parts.proofs.Written.{length-values}
 use Rattle.rulebook.proofs.Tests.{true-of, of-true, all, and-left, and-right}
 use Rattle.rulebook.proofs.Cells.{line}
-use Rattle.rulebook.proofs.Weights.{reads-rows, fair, value-lt}
-use Rattle.rulebook.proofs.Pair.{fair-table, pair, same-rows, canonical-cells}
+use Rattle.rulebook.proofs.Pair.{values-count, values-canonical, canonical-cells}
 use Rattle.rulebook.proofs.Theorem.{rules-iff-values}
 use Rattle.consumer.specs.Yielded.{folds}
 use Rattle.pair_fold_checks.specs.PairFold.{pairFoldRefusal, pairFoldAccumulators}
@@ -38,18 +37,6 @@ pub canonical-of : (l : List ℕ) → ((i : ℕ) → getD l i 0 < p) → canonic
 unfolding canonical
 canonical-of [] h = refl
 canonical-of (x ∷ xs) h = rw (lt-ltb x p (h 0), canonical-of xs (λ i. h (suc i)))
-
--- every value of a pair is canonical
-values-below : (x y : Cell → ℕ) (same : (c : Cell) → ltb (line c) 3 ≡ true → x c ≡ y c) (canon : (c : Cell) → y c < p) (es : List Entry) → all fair es ≡ true →
-    All (λ v. v < p) (values residues y es)
-unfolding values
-values-below x y same canon [] h = tt
-values-below x y same canon (e ∷ es) h =
-    (value-lt x y same canon (weightedBy (e .kind) (e .expr)) (and-right (reads-rows (e .expr)) _ (and-left (fair e) (all fair es) h)), values-below x y same canon es (and-right (fair e) _ h))
-
-pub values-count : (masks lv nv : List ℕ) (z f : ℕ) → length (pairValues masks lv nv z f) ≡ 226
-unfolding pairValues
-values-count masks lv nv z f = length-values (cells masks lv nv z f) table ∙ table-length
 
 module _ (masks lv nv : List ℕ) (z f : ℕ) (given : Given masks lv nv z f) where
   -- the call with one alpha below p and the accumulator 0 is not turned back, and its answer is the fold of the values
@@ -74,13 +61,10 @@ module _ (masks lv nv : List ℕ) (z f : ℕ) (given : Given masks lv nv z f) wh
   unfolding pairFoldAccumulators folds
   folded alpha h = simp (eq-eqb _ _ (not-refused alpha h))
 
-  values-canonical : All (λ v. v < p) (pairValues masks lv nv z f)
-  unfolding pairValues
-  values-canonical =
-      values-below (pair masks lv nv) (cells masks lv nv z f) (same-rows masks lv nv z f)
+  all-canonical : All (λ v. v < p) (pairValues masks lv nv z f)
+  all-canonical =
+      values-canonical masks lv nv z f
       (canonical-cells masks lv nv (given .accepted) (given .row) (given .next-row) z f (given .z-below) (given .f-below))
-      table
-      fair-table
 
   -- a pair keeps every rule exactly when its values are 0
   pub keeps-iff-zeros : KeepsEveryRule masks lv nv z f ↔ All (λ v. v ≡ 0) (pairValues masks lv nv z f)
@@ -110,7 +94,7 @@ module _ (masks lv nv : List ℕ) (z f : ℕ) (given : Given masks lv nv z f) wh
   rules-of-many : Many (FoldsToZero masks lv nv z f) → KeepsEveryRule masks lv nv z f
   rules-of-many m =
       keeps-iff-zeros .1
-      (zero-values (m .alphas) (pairValues masks lv nv z f) (m .below) values-canonical (m .distinct) enough
+      (zero-values (m .alphas) (pairValues masks lv nv z f) (m .below) all-canonical (m .distinct) enough
       (all-both (λ alpha h e. head-is (sym (folded alpha h) ∙ e .1)) (m .alphas) (m .below) (m .each)))
     where
       head-is : {a b : ℕ} → _≡_ {A = List ℕ} (a ∷ []) (b ∷ []) → a ≡ b

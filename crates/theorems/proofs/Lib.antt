@@ -2,5 +2,5 @@ pub mod Roots
 pub mod Demand3
 pub mod ByConsumer
 pub mod Chain
-pub mod Blocks
 pub mod Rowdesk
+pub mod Faults

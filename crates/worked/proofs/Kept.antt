@@ -19,11 +19,12 @@ use Rattle.rulebook.specs.Kind.{ones, firstOne, kindOf}
 use Rattle.rulebook.specs.Rulebook.{rules-A, rules-B, rules-C, rules-D, rules-E, rules-F, rules-G, rules-H, rules-I, rules-J, rules-K, rules-L, rules-M, rules-N, rulebook, keeps}
 use Rattle.rulebook.specs.Plain.{Accepted, bits, plainFlags, pairKeeps, pairPlain}
 use Rattle.rulebook.proofs.Open.{open-table}
+use Rattle.rulebook.proofs.Pair.{values-count}
 use Rattle.run_pairs.specs.Run.{rowAt, pairAt, tabulate, pairsOf, runRefusal}
 use Rattle.answers.specs.declared.Spot.the-variants.{Clean}
 use Rattle.runs.specs.Report.{failing, spotFrom, reportOf}
 use Rattle.theorems.specs.Demand3.{Given, KeepsEveryRule}
-use Rattle.theorems.proofs.Demand3.{values-count, keeps-iff-zeros, demand-3}
+use Rattle.theorems.proofs.Demand3.{keeps-iff-zeros, demand-3}
 use Rattle.theorems.proofs.Chain.{zeros-are}
 use Rattle.worked.specs.Rows.{powers}
 use Rattle.worked.specs.Kept.{add, tstore, tstore-ext, end-entry, padding, kept-run, Weights, Kept, KeptPairs}

@@ -22,12 +22,14 @@ use Rattle.pair_fold_checks.specs.PairFold.{pairFoldRefusal, pairFoldAccumulato
 use Rattle.run_pairs.specs.Run.{rowAt, pairAt, tabulate, pairsOf, runRefusal}
 use Rattle.words.specs.Words.{words, littleEndian}
 use Rattle.text.specs.Decimal.{decimalOf, digitsOf}
-use Rattle.rowdesk_lines.specs.Lines.{lineOf}
-use Rattle.rowdesk_steps.specs.PairLines.{linesFrom, textOf}
-use Rattle.rowdesk_steps.specs.Model.{outputOf, masksIn, runIn}
-use Rattle.theorems.proofs.Rowdesk.{prints-lines}
+use Rattle.field_signed.specs.Signed.{signedOf}
+use Rattle.stream_text.specs.Lines.{lineOf}
+use Rattle.stream_text.specs.PairLines.{lineOfPair}
+use Rattle.stream_text.specs.Faults.{pairFaults, faultLine, faultsText, faultsOfPair}
+use Rattle.stream_model.specs.Model.{PairText, outputOf, textsFrom, masksIn, runIn}
+use Rattle.stream_model.proofs.Printed.{prints-texts}
 use Rattle.worked.specs.Rows.{powers, zeros, one-zero-row}
-use Rattle.worked.specs.Worked.{Worked}
+use Rattle.worked.specs.Worked.{Worked, PrintsFaults}
 
 zero-row-values : (f : ℕ)
     → pairValues powers zeros zeros 0 f ≡ replicate 103 0 ++ (1 ∷ replicate 43 0) ++ ((p - 1) ∷ replicate 78 0)
@@ -38,12 +40,21 @@ pairs-are : pairsOf (runIn 1 one-zero-row) (masksIn one-zero-row) ≡ pairValues
 unfolding words littleEndian pairsOf tabulate pairAt rowAt
 pairs-are = refl
 
-prints-one-zero-row : outputOf one-zero-row ≡ 48 ∷ 32 ∷ 50 ∷ 32 ∷ 49 ∷ 48 ∷ 52 ∷ 10 ∷ []
-unfolding runRefusal canonical distinct words littleEndian textOf linesFrom nonzeros firstFrom lineOf decimalOf digitsOf
-prints-one-zero-row =
-    prints-lines one-zero-row 1 refl refl
-    ∙ ap (λ (pairs : List (List ℕ)). textOf (linesFrom 0 pairs))
-    (pairs-are ∙ ap (λ (vs : List ℕ). vs ∷ []) (zero-row-values 1))
+-- whatever a program prints of a pair, it prints that of the one pair
+prints-pair : (text : PairText)
+    → outputOf text one-zero-row ≡ text 0 (replicate 103 0 ++ (1 ∷ replicate 43 0) ++ ((p - 1) ∷ replicate 78 0)) ++ []
+unfolding runRefusal canonical distinct words littleEndian textsFrom
+prints-pair text =
+    prints-texts text one-zero-row 1 refl refl
+    ∙ ap (textsFrom text 0) (pairs-are ∙ ap (λ (vs : List ℕ). vs ∷ []) (zero-row-values 1))
+
+prints-one-zero-row : outputOf lineOfPair one-zero-row ≡ 48 ∷ 32 ∷ 50 ∷ 32 ∷ 49 ∷ 48 ∷ 52 ∷ 10 ∷ []
+unfolding nonzeros firstFrom lineOf decimalOf digitsOf
+prints-one-zero-row = prints-pair lineOfPair
+
+pub prints-faults : PrintsFaults
+unfolding pairFaults faultsText faultLine signedOf decimalOf digitsOf
+prints-faults = prints-pair faultsOfPair
 
 pub worked : Worked
 unfolding pairFoldAccumulators pairFoldRefusal canonical distinct folds fold pairValues values eval addP negP subP mulP open-table lv-ext-length

@@ -5,7 +5,7 @@ use Prim.Native.Nat.{ℕ, zero, suc, _/_, _%_, _^_}
 use lib.ListN.{replicate, set}
 use Rattle.table.specs.Columns.{NUM-CPU-COLS, COL-PC, COL-INST, COL-OP1-IMM, COL-OP0, COL-OP1, COL-S-OP0-START, COL-S-DST-START, COL-S-MLOAD, COL-S-END, COL-S-TLOAD, COL-IS-ENTRY-SC, COL-IS-PADDING}
 use Rattle.table.specs.Masks.{SCCALL}
-use Rattle.rowdesk_steps.specs.declared.State.{State}
+use Rattle.stream_model.specs.declared.State.{State}
 
 -- "Masks 2^0..2^24"
 abbrev pub powers : List ℕ

@@ -15,7 +15,9 @@ use Rattle.rulebook.specs.Rule.{keepsAll}
 use Rattle.rulebook.specs.Kind.{kindOf}
 use Rattle.rulebook.specs.Rulebook.{ext-length, size, rules-G}
 use Rattle.pair_fold_checks.specs.PairFold.{pairFoldAccumulators}
-use Rattle.rowdesk_steps.specs.Model.{outputOf}
+use Rattle.stream_text.specs.PairLines.{lineOfPair}
+use Rattle.stream_text.specs.Faults.{faultsOfPair}
+use Rattle.stream_model.specs.Model.{outputOf}
 use Rattle.worked.specs.Rows.{powers, zeros, tload, end, encoded, mload, at-pc, one-zero-row}
 
 -- what an expression of the table comes to on a row, and one of the rulebook, which goes by the kind of the row's
@@ -60,7 +62,13 @@ pub record Worked : Type 0 where
   pub zero-row-values : (f : ℕ)
       → pairValues powers zeros zeros 0 f ≡ replicate 103 0 ++ (1 ∷ replicate 43 0) ++ ((p - 1) ∷ replicate 78 0)
   -- "rowdesk prints only "0 2 104".": these seven characters and a line end, in ASCII
-  pub prints-one-zero-row : outputOf one-zero-row ≡ 48 ∷ 32 ∷ 50 ∷ 32 ∷ 49 ∷ 48 ∷ 52 ∷ 10 ∷ []
+  pub prints-one-zero-row : outputOf lineOfPair one-zero-row ≡ 48 ∷ 32 ∷ 50 ∷ 32 ∷ 49 ∷ 48 ∷ 52 ∷ 10 ∷ []
   -- "That pair folds from 0 to 0 under alpha 0 and 1, and under 2 to 18446673700603314177."
   pub zero-row-folds :
       pairFoldAccumulators powers zeros zeros 0 1 (0 ∷ 1 ∷ 2 ∷ []) (0 ∷ 0 ∷ 0 ∷ []) ≡ 0 ∷ 0 ∷ 18446673700603314177 ∷ []
+
+-- what faults prints of the same row: "0 104 1" and "0 148 -1", each with a line end, in ASCII (document 02, 1/12)
+abbrev pub PrintsFaults : Type 0
+PrintsFaults =
+    outputOf faultsOfPair one-zero-row
+    ≡ 48 ∷ 32 ∷ 49 ∷ 48 ∷ 52 ∷ 32 ∷ 49 ∷ 10 ∷ 48 ∷ 32 ∷ 49 ∷ 52 ∷ 56 ∷ 32 ∷ 45 ∷ 49 ∷ 10 ∷ []

@@ -1,6 +1,7 @@
 //! Times our residue operations, pairs and runs against plonky2's arithmetic and the listed Rust.
 
 mod clock;
+mod command;
 #[cfg(libtiming)]
 mod linked;
 mod loops;

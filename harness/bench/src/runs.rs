@@ -1,28 +1,39 @@
-//! Times runs of 65,536 rows: the report, and the program rowdesk.
+//! Times runs of 65,536 rows: the report, and the programs rowdesk and faults.
 
-use std::fs::{self, File};
+use std::fs;
 use std::io;
 use std::path::{Path, PathBuf};
-use std::process::{Command, Stdio};
 
 use fields::Plonky2Style;
 use olavm::Reference;
-use pairs::{Rng, Run, MAX_ROWS};
-use rowdesk::{built, input, Chunks, Program};
+use pairs::columns::FILTER_SCCALL_END;
+use pairs::{cells, Rng, Run, MAX_ROWS};
+use programs::{built, input, Text};
 
 use crate::clock::{self, Work};
+use crate::command::{has_same_output, work_through};
 use crate::table;
 
 /// Rounds of this much work.
 const ROUNDS: usize = 7;
 
-/// Prints the time for a pair of a run's report, and for the whole run through rowdesk.
+/// Prints the time for a pair of a run's report, and for whole runs through the programs: a run that
+/// keeps every rule, one with few values that are not 0, and one of random rows, with few that are.
 pub fn report(rust: Reference) {
-    let run = Run::draw(&mut Rng::new(0), MAX_ROWS);
-    reports(rust, &run);
-    if let Err(error) = programs(&run) {
-        println!("rowdesk is not timed: {error}");
+    let mut rng = Rng::new(0);
+    let kept = Run::draw(&mut rng, MAX_ROWS);
+    reports(rust, &kept);
+    program("rowdesk, seconds", Text::Counts, &kept);
+    let mut few = kept;
+    for row in few.rows.iter_mut().step_by(1000) {
+        row[FILTER_SCCALL_END] = 2;
     }
+    program("faults, few, seconds", Text::Faults, &few);
+    let mut all = few;
+    for row in &mut all.rows {
+        *row = cells::row(&mut rng, Rng::residue);
+    }
+    program("faults, all, seconds", Text::Faults, &all);
 }
 
 fn reports(rust: Reference, run: &Run) {
@@ -40,41 +51,37 @@ fn reports(rust: Reference, run: &Run) {
     table::line("report, ns a pair", rust, ours);
 }
 
-/// Times both programs on the run's file.
-fn programs(run: &Run) -> io::Result<()> {
-    let (plain, ours) = (plain_rowdesk()?, built());
-    if !ours.is_file() {
-        return Err(io::Error::other(format!("{} is not built", ours.display())));
+/// Prints the times of a program in plain Rust and of ours on a run.
+fn program(name: &str, text: Text, run: &Run) {
+    match timed(text, run) {
+        Ok([rust, ours]) => table::line(name, rust, ours),
+        Err(error) => println!("{} is not timed: {error}", text.program()),
     }
-    let bytes = input::of_run(run);
-    let output = |path: &Path| Program::at(path).output(&bytes, Chunks::Whole);
-    assert_eq!(output(&plain), output(&ours), "the outputs differ");
+}
 
+/// The seconds that both programs take on the run's file.
+fn timed(text: Text, run: &Run) -> io::Result<[f64; 2]> {
+    let programs = [plain(text)?, built(text)];
+    let [plain, ours] = &programs;
+    if let Some(missing) = programs.iter().find(|path| !path.is_file()) {
+        return Err(io::Error::other(format!(
+            "{} is not built",
+            missing.display()
+        )));
+    }
     let file = std::env::temp_dir().join(format!("felmugo-{}.run", std::process::id()));
-    fs::write(&file, bytes)?;
+    fs::write(&file, input::of_run(run))?;
+    assert!(has_same_output(plain, ours, &file)?, "the outputs differ");
     let work = |path: &Path| work_through(path, &file).expect("the program runs");
-    let mut contestants: [Work; 2] = [Box::new(|| work(&plain)), Box::new(|| work(&ours))];
+    let mut contestants: [Work; 2] = [Box::new(|| work(plain)), Box::new(|| work(ours))];
     let ns = clock::least(ROUNDS, &mut contestants);
     drop(contestants);
     fs::remove_file(&file)?;
-    table::line("rowdesk, seconds", ns[0] / 1e9, ns[1] / 1e9);
-    Ok(())
+    Ok([ns[0] / 1e9, ns[1] / 1e9])
 }
 
-/// The plain Rust program, which is built beside this one.
-fn plain_rowdesk() -> io::Result<PathBuf> {
-    let path = std::env::current_exe()?.with_file_name("plain_rowdesk");
-    if path.is_file() {
-        Ok(path)
-    } else {
-        Err(io::Error::other(format!("{} is not built", path.display())))
-    }
-}
-
-fn work_through(program: &Path, file: &Path) -> io::Result<()> {
-    Command::new(program)
-        .stdin(File::open(file)?)
-        .stdout(Stdio::null())
-        .status()?;
-    Ok(())
+/// The program in plain Rust, which is built beside this one.
+fn plain(text: Text) -> io::Result<PathBuf> {
+    let name = format!("plain_{}", text.program());
+    Ok(std::env::current_exe()?.with_file_name(name))
 }

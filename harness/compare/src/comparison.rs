@@ -10,6 +10,8 @@ use crate::Entries;
 pub struct Amounts {
     /// Pairs of operands of the operations on residues.
     pub operands: u64,
+    /// Residues, for the maps to the signed form and back.
+    pub signed: u64,
     /// Rounds of every set of faults.
     pub rounds: u64,
     /// Pairs of rows, for values, for folds and for verdicts each.
@@ -44,6 +46,7 @@ impl<'a> Comparison<'a> {
             tally,
         };
         comparison.residues(seed, amounts.operands);
+        comparison.signed(seed, amounts.signed);
         comparison.refusals(seed, amounts.rounds);
         comparison.values(seed, amounts.pairs);
         comparison.fold_refusals(seed, amounts.rounds);

@@ -1,6 +1,6 @@
 //! The functions that are compared, whoever answers them.
 
-use felmugo::flat::{FelmugoReport, FelmugoResidue, FelmugoVerdict};
+use felmugo::flat::{FelmugoReport, FelmugoResidue, FelmugoSigned, FelmugoVerdict};
 use olavm::Pair;
 
 /// The inputs of a call for the values of a pair, of any lengths.
@@ -46,6 +46,10 @@ pub trait Entries {
     fn sub(&self, a: u64, b: u64) -> FelmugoResidue;
     /// `a · b` modulo p.
     fn mul(&self, a: u64, b: u64) -> FelmugoResidue;
+    /// The signed form of a residue.
+    fn signed(&self, residue: u64) -> FelmugoSigned;
+    /// The residue of a signed number.
+    fn unsigned(&self, value: i64) -> FelmugoResidue;
     /// Writes the values of a pair to `out`; the answer is 0 or the refusal's number.
     fn pair_values(&self, call: Call, out: &mut [u64]) -> u64;
     /// Folds the values of a pair into the accumulators; the answer is 0 or the refusal's number.

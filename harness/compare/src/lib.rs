@@ -11,9 +11,10 @@ pub mod model;
 mod refusals;
 mod reports;
 mod residues;
+mod signed;
 mod values;
 
 pub use comparison::{Amounts, Comparison};
 pub use entries::{Call, Entries};
-pub use felmugo::flat::{FelmugoReport, FelmugoResidue, FelmugoVerdict};
+pub use felmugo::flat::{FelmugoReport, FelmugoResidue, FelmugoSigned, FelmugoVerdict};
 pub use linked::Linked;

@@ -1,6 +1,6 @@
 //! The exported functions of the linked library.
 
-use felmugo::flat::{self, FelmugoReport, FelmugoResidue, FelmugoVerdict};
+use felmugo::flat::{self, FelmugoReport, FelmugoResidue, FelmugoSigned, FelmugoVerdict};
 
 use crate::{Call, Entries};
 
@@ -18,6 +18,14 @@ impl Entries for Linked {
 
     fn mul(&self, a: u64, b: u64) -> FelmugoResidue {
         flat::mul(a, b)
+    }
+
+    fn signed(&self, residue: u64) -> FelmugoSigned {
+        flat::signed(residue)
+    }
+
+    fn unsigned(&self, value: i64) -> FelmugoResidue {
+        flat::unsigned(value)
     }
 
     fn pair_values(&self, call: Call, out: &mut [u64]) -> u64 {

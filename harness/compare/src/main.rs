@@ -9,6 +9,7 @@ use tally::{Asked, NOT_COMPARED};
 /// What a short comparison compares.
 const SHORT: Amounts = Amounts {
     operands: 100_000,
+    signed: 1_000_000,
     rounds: 50,
     pairs: 200_000,
     runs: 1_000,

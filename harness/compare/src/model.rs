@@ -1,14 +1,14 @@
 //! What a call has to answer: a refusal of document 01's table, else what the listed Rust's
 //! values are or tell.
 
-use fields::{Plain, Residue, P};
+use fields::{Plain, Residue, GREATEST, P};
 use olavm::{Pair, Reference, Row, Values, COLUMNS, MASKS, VALUES};
 use pairs::columns::*;
 use pairs::masks::are_accepted;
 use pairs::{Run, MAX_ROWS};
 use plonky2::field::types::Field;
 
-use crate::{Call, FelmugoReport, FelmugoResidue, FelmugoVerdict};
+use crate::{Call, FelmugoReport, FelmugoResidue, FelmugoSigned, FelmugoVerdict};
 
 /// The values of a pair, or the number of the refusal.
 pub fn pair_values(rust: Reference, call: Call, buffer: usize) -> Result<Values, u64> {
@@ -90,6 +90,37 @@ pub fn operation(a: u64, b: u64, meant: Operation) -> FelmugoResidue {
 
 /// An operation's meaning.
 pub type Operation = fn(Plain, Plain) -> Plain;
+
+/// The signed form of a number, if that is a residue.
+pub fn signed(residue: u64) -> FelmugoSigned {
+    if is_not_canonical(&[residue]) {
+        return FelmugoSigned {
+            number: 7,
+            value: 0,
+        };
+    }
+    let value = fields::signed(residue);
+    FelmugoSigned {
+        number: 0,
+        value: value.try_into().expect("it is in the range"),
+    }
+}
+
+/// The residue of a signed number, if that is in the range: "A signed number outside the range is
+/// refused with 7."
+pub fn unsigned(value: i64) -> FelmugoResidue {
+    let value = i128::from(value);
+    if !(-GREATEST..=GREATEST).contains(&value) {
+        return FelmugoResidue {
+            number: 7,
+            value: 0,
+        };
+    }
+    FelmugoResidue {
+        number: 0,
+        value: fields::unsigned(value),
+    }
+}
 
 /// The number with which a call for the values of a pair is refused, or 0.
 pub fn values_refusal(call: Call, buffer: usize) -> u64 {

@@ -10,6 +10,16 @@ pub struct FelmugoResidue {
     pub value: u64,
 }
 
+/// A signed number, or the number of the refusal with the value 0.
+#[repr(C)]
+#[derive(Clone, Copy, Debug, Default, PartialEq, Eq)]
+pub struct FelmugoSigned {
+    /// 0, or the refusal's number.
+    pub number: u64,
+    /// The signed number, or 0.
+    pub value: i64,
+}
+
 /// A verdict, or the number of the refusal.
 #[repr(C)]
 #[derive(Clone, Copy, Debug, Default, PartialEq, Eq)]
@@ -43,6 +53,8 @@ extern "C" {
     pub fn felmugo_add(a: u64, b: u64) -> FelmugoResidue;
     pub fn felmugo_sub(a: u64, b: u64) -> FelmugoResidue;
     pub fn felmugo_mul(a: u64, b: u64) -> FelmugoResidue;
+    pub fn felmugo_signed(residue: u64) -> FelmugoSigned;
+    pub fn felmugo_unsigned(value: i64) -> FelmugoResidue;
     pub fn felmugo_pair_values(
         masks: *const u64,
         masks_len: usize,

@@ -1,7 +1,7 @@
 //! Who answers as it should, and who does not.
 
 use compare::{model, Amounts, Call, Comparison, Entries};
-use compare::{FelmugoReport, FelmugoResidue, FelmugoVerdict};
+use compare::{FelmugoReport, FelmugoResidue, FelmugoSigned, FelmugoVerdict};
 use fields::Plain;
 use olavm::{Reference, VALUES};
 use tally::Tally;
@@ -9,6 +9,7 @@ use tally::Tally;
 /// A comparison that takes part of a second.
 const AMOUNTS: Amounts = Amounts {
     operands: 100,
+    signed: 100,
     rounds: 1,
     pairs: 1000,
     runs: 50,
@@ -30,6 +31,14 @@ impl Entries for Faithful {
 
     fn mul(&self, a: u64, b: u64) -> FelmugoResidue {
         model::operation(a, b, |a, b| a * b)
+    }
+
+    fn signed(&self, residue: u64) -> FelmugoSigned {
+        model::signed(residue)
+    }
+
+    fn unsigned(&self, value: i64) -> FelmugoResidue {
+        model::unsigned(value)
     }
 
     fn pair_values(&self, call: Call, out: &mut [u64]) -> u64 {
@@ -63,6 +72,8 @@ impl Entries for Faithful {
 
 /// Other answers, which may ask the faithful.
 pub type Add<'a> = dyn Fn(&Faithful, u64, u64) -> FelmugoResidue + 'a;
+pub type Signed<'a> = dyn Fn(&Faithful, u64) -> FelmugoSigned + 'a;
+pub type Unsigned<'a> = dyn Fn(&Faithful, i64) -> FelmugoResidue + 'a;
 pub type Values<'a> = dyn Fn(&Faithful, Call, &mut [u64]) -> u64 + 'a;
 pub type Fold<'a> = dyn Fn(&Faithful, Call, &[u64], &mut [u64]) -> u64 + 'a;
 pub type Judge<'a> = dyn Fn(&Faithful, Call) -> FelmugoVerdict + 'a;
@@ -72,6 +83,8 @@ pub type Report<'a> = dyn Fn(&Faithful, &[u64], &[u64]) -> FelmugoReport + 'a;
 pub struct Impostor<'a> {
     faithful: Faithful,
     pub add: Option<&'a Add<'a>>,
+    pub signed: Option<&'a Signed<'a>>,
+    pub unsigned: Option<&'a Unsigned<'a>>,
     pub values: Option<&'a Values<'a>>,
     pub fold: Option<&'a Fold<'a>>,
     pub judge: Option<&'a Judge<'a>>,
@@ -83,6 +96,8 @@ impl Impostor<'_> {
         Self {
             faithful: Faithful(rust),
             add: None,
+            signed: None,
+            unsigned: None,
             values: None,
             fold: None,
             judge: None,
@@ -105,6 +120,20 @@ impl Entries for Impostor<'_> {
 
     fn mul(&self, a: u64, b: u64) -> FelmugoResidue {
         self.faithful.mul(a, b)
+    }
+
+    fn signed(&self, residue: u64) -> FelmugoSigned {
+        match self.signed {
+            Some(answer) => answer(&self.faithful, residue),
+            None => self.faithful.signed(residue),
+        }
+    }
+
+    fn unsigned(&self, value: i64) -> FelmugoResidue {
+        match self.unsigned {
+            Some(answer) => answer(&self.faithful, value),
+            None => self.faithful.unsigned(value),
+        }
     }
 
     fn pair_values(&self, call: Call, out: &mut [u64]) -> u64 {

@@ -4,6 +4,7 @@ mod actors;
 mod folds;
 mod reports;
 mod residues;
+mod signed;
 mod values;
 mod verdicts;
 

@@ -1,3 +1,0 @@
-pub mod PairLines
-pub mod Model
-pub mod Sound

@@ -1,0 +1,3 @@
+pub mod Short
+pub mod Listed
+pub mod Tells

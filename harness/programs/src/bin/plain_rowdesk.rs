@@ -1,0 +1,7 @@
+//! rowdesk in plain Rust, for timing and as a check of the comparison.
+
+use programs::{plain, Text};
+
+fn main() {
+    plain::main(Text::Counts);
+}
