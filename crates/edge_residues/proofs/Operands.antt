@@ -6,7 +6,6 @@ use lib.Dec.{eqb}
 use borrow.Author.Tests.{eq-eqb}
 use Rattle.algebra.specs.Prime.{p}
 use Rattle.refusals.specs.Refusal.{unless}
-use Rattle.checked_residue.specs.declared.Residue.{Residue}
 use Rattle.checked_residue.specs.declared.Residue.the-variants.{Value, Refused}
 use Rattle.checked_residue.specs.Answer.{number, checked}
 use Rattle.checked_residue.proofs.Operands.{left-refused, right-refused}

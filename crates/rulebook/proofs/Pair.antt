@@ -12,7 +12,6 @@ use lib.Dec.{eqb, ltb}
 use borrow.Author.Tests.{eq-eqb, not-true}
 use Rattle.algebra.specs.Prime.{p}
 use Rattle.algebra.specs.Lists.{All}
-use Rattle.algebra.specs.Expr.{eval}
 use Rattle.refusals.specs.Refusal.{member, distinct}
 use Rattle.refusals.proofs.Laws.{canonical-below}
 use Rattle.table.specs.Cells.{Cell, local, next, maskAt, zLast, lagrangeBasisFirst, cells}

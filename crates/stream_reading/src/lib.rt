@@ -2,7 +2,7 @@
 // names its text, and itself for what it says on standard error.
 ghost use mathlib.Core.Path.{_≡_};
 ghost use mathlib.Core.Bool.{false};
-ghost use Prim.Native.Nat.{_≤_, _<_};
+ghost use Prim.Native.Nat.{_<_};
 ghost use lib.ListN.{length};
 ghost use Rattle.stream_model.specs.Model.{rowBytes};
 ghost use Rattle.stream_model.specs.Rows.{rowsIn};

@@ -14,7 +14,7 @@ use Rattle.field_signed.proofs.Laws.{as-it-is, minus-p, distance-to-p}
 use Rattle.text.specs.Decimal.{decimalOf, signedDecimal}
 use Rattle.text.proofs.Digits.{decimal-short, decimal-below}
 use Rattle.tally.specs.Tally.{nonzeros, firstFrom}
-use Rattle.stream_text.specs.Lines.{lineOf, refusedOf}
+use Rattle.stream_text.specs.Lines.{lineOf}
 use Rattle.stream_text.specs.Faults.{Fault, pairFaults, faultLine, faultsText}
 use Rattle.stream_text.specs.Text.{textBy, pairBytes}
 use Rattle.stream_text.specs.declared.Text.{Text}
@@ -27,10 +27,6 @@ line-short index count lowest =
     let c = decimal-short count in
     let l = decimal-short lowest in
     simp length-append (omega arith)
-
-pub refused-short : (number : ℕ) → length (refusedOf number) ≤ 64
-unfolding refusedOf
-refused-short number = let n = decimal-short number in simp length-append (omega arith)
 
 -- the text of a signed number: a residue as it is, or itself minus p
 module _ (v : ℕ) where
@@ -88,6 +84,3 @@ module _ (pair : ℕ) (h : pair < 65536) where
 pub text-short : (t : Text) (i : ℕ) (vs : List ℕ) → i < 65536 → length vs ≤ 226 → length (textBy t i vs) ≤ pairBytes
 text-short Counts i vs h l = omega (arith, line-short i (nonzeros vs) (firstFrom 1 vs))
 text-short Faults i vs h l = omega (arith, faults-short i h 1 vs (omega arith))
-
-pub refused-room : (number : ℕ) → length (refusedOf number) ≤ pairBytes
-refused-room number = omega (arith, refused-short number)

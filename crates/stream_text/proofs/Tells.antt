@@ -1,5 +1,5 @@
--- What the faults of a run tell: how many values are not 0, how many pairs fail and which is the first, and that none
--- does. Each is told of a pair and of those after it, so that it follows for all pairs by induction.
+-- What the faults of a run tell: how many values are not 0, how many pairs fail and which is the first. Each is told of
+-- a pair and of those after it, so that it follows for all pairs by induction.
 use mathlib.Core.Path.{_≡_, refl, sym, ap, _∙_}
 use mathlib.Core.Logic.{inl, inr}
 use mathlib.Core.Bool.{Bool, true, false, cond}
@@ -7,10 +7,10 @@ use mathlib.Core.List.{List, [], _∷_, _++_, append-assoc}
 use Prim.Native.Nat.{ℕ, zero, suc, _+_, _<_}
 use native.Mathlib.Nat.{add-zero}
 use native.Mathlib.Omega.{arith}
-use lib.ListN.{length, replicate, length-append, length-replicate}
+use lib.ListN.{length, replicate, length-replicate}
 use lib.Dec.{eqb, eqb·suc-zero}
 use borrow.Author.Tests.{eq-eqb, ne-eqb}
-use Rattle.algebra.specs.Lists.{All, Mem}
+use Rattle.algebra.specs.Lists.{Mem}
 use Rattle.refusals.specs.Refusal.{member}
 use Rattle.answers.specs.declared.Spot.the-variants.{At}
 use Rattle.tally.specs.Tally.{nonzeros, firstFrom}
@@ -18,10 +18,6 @@ use Rattle.field_signed.specs.Signed.{signedOf}
 use Rattle.stream_text.specs.Faults.{Fault, pairFaults, faultsFrom, faultLine, faultsText, faultsOfPair}
 use Rattle.stream_text.specs.Listed.{pairsOn, distinctCount, firstOn}
 use Rattle.stream_text.proofs.Listed.{from-only}
-
-nil-of-length : {A : Type 0} (xs : List A) → length xs ≡ 0 → xs ≡ []
-nil-of-length [] e = refl
-nil-of-length (x ∷ xs) e = absurd (omega arith)
 
 -- faults one list behind the other
 pub text-append : (fs gs : List Fault) → faultsText (fs ++ gs) ≡ faultsText fs ++ faultsText gs
@@ -98,13 +94,6 @@ module _ (pair : ℕ) where
       go true e = e
       go false e = rw eqb·suc-zero
 
-  -- no fault exactly where all values are 0
-  pub pair-none : (k : ℕ) (vs : List ℕ) → nonzeros vs ≡ 0 → pairFaults pair k vs ≡ []
-  pair-none k vs e = nil-of-length (pairFaults pair k vs) (pair-count k vs ∙ e)
-
-  pub none-pair : (k : ℕ) (vs : List ℕ) → pairFaults pair k vs ≡ [] → nonzeros vs ≡ 0
-  none-pair k vs e = sym (pair-count k vs) ∙ ap length e
-
 -- a number once or more before numbers that it is not among adds one to how many distinct ones there are
 distinct-more : (n m : ℕ) (ns : List ℕ) → member n ns ≡ false
     → distinctCount (replicate (suc m) n ++ ns) ≡ suc (distinctCount ns)
@@ -143,23 +132,6 @@ module _ (i : ℕ) (vs : List ℕ) (pairs : List (List ℕ)) where
       (pairs-append (pairFaults i 1 vs) fs ∙ ap (λ (l : List ℕ). l ++ pairsOn fs) (pair-pairs i 1 vs))
       ∙ distinct-same i (nonzeros vs) (pairsOn fs) (not-member i fs later-pairs)
 
-  pub none-step : faultsFrom i (vs ∷ pairs) ≡ [] → (nonzeros vs ≡ 0) × (faultsFrom (suc i) pairs ≡ [])
-  unfolding faultsFrom
-  none-step e =
-      let fs = faultsFrom (suc i) pairs in
-      let l : length (pairFaults i 1 vs) + length fs ≡ 0 = sym (length-append (pairFaults i 1 vs) fs) ∙ ap length e in
-      (sym (pair-count i 1 vs) ∙ omega arith, nil-of-length fs (omega arith))
-
   pub text-step : faultsText (faultsFrom i (vs ∷ pairs)) ≡ faultsOfPair i vs ++ faultsText (faultsFrom (suc i) pairs)
   unfolding faultsFrom
   text-step = text-append (pairFaults i 1 vs) (faultsFrom (suc i) pairs)
-
--- there is no fault exactly where no value is nonzero
-pub zeros-of-no-fault : (i : ℕ) (pairs : List (List ℕ)) → faultsFrom i pairs ≡ [] → All (λ vs. nonzeros vs ≡ 0) pairs
-zeros-of-no-fault i [] e = tt
-zeros-of-no-fault i (vs ∷ pairs) e = let k = none-step i vs pairs e in (k .0, zeros-of-no-fault (suc i) pairs (k .1))
-
-pub no-fault-of-zeros : (i : ℕ) (pairs : List (List ℕ)) → All (λ vs. nonzeros vs ≡ 0) pairs → faultsFrom i pairs ≡ []
-unfolding faultsFrom
-no-fault-of-zeros i [] h = refl
-no-fault-of-zeros i (vs ∷ pairs) h = rw (pair-none i 1 vs (h .0)) (no-fault-of-zeros (suc i) pairs (h .1))

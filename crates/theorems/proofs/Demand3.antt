@@ -8,7 +8,6 @@ use mathlib.Core.List.{List, [], _∷_, map}
 use Prim.Native.Nat.{ℕ, suc, _<_, _≤_}
 use native.Mathlib.Omega.{arith}
 use lib.ListN.{length, getD}
-use lib.Dec.{ltb}
 use borrow.Author.Tests.{lt-ltb, eq-eqb}
 use Rattle.algebra.specs.Prime.{p}
 use Rattle.algebra.specs.Fold.{fold}
@@ -16,14 +15,8 @@ use Rattle.algebra.specs.Lists.{All}
 use Rattle.algebra.proofs.Lists.{all-both, below, length-map-below, all-map-below, nodup-map-below}
 use Rattle.refusals.specs.Refusal.{canonical}
 use Rattle.residue.specs.Residues.{residues}
-use Rattle.table.specs.Cells.{Cell, cells}
-use Rattle.table.specs.Rows.{Row}
-use Rattle.table.specs.Entry.{Entry, weightedBy, values}
-use Rattle.table.specs.Table.{table, pairValues}
-use Rattle.table.proofs.Numbers.{table-length}
-use Rattle.parts.proofs.Written.{length-values}
-use Rattle.rulebook.proofs.Tests.{true-of, of-true, all, and-left, and-right}
-use Rattle.rulebook.proofs.Cells.{line}
+use Rattle.table.specs.Table.{pairValues}
+use Rattle.rulebook.proofs.Tests.{true-of, of-true}
 use Rattle.rulebook.proofs.Pair.{values-count, values-canonical, canonical-cells}
 use Rattle.rulebook.proofs.Theorem.{rules-iff-values}
 use Rattle.consumer.specs.Yielded.{folds}

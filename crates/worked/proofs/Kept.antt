@@ -2,7 +2,7 @@
 -- rulebook and the other from the table; what holds under all weights and alphas follows by demand 3.
 use mathlib.Core.Path.{_≡_, refl, ap₂, _∙_}
 use mathlib.Core.Bool.{Bool, true, false}
-use mathlib.Core.List.{List, [], _∷_}
+use mathlib.Core.List.{List}
 use Prim.Native.Nat.{ℕ}
 use lib.ListN.{length}
 use Rattle.algebra.specs.Expr.{eval}
