@@ -185,6 +185,8 @@ def main():
 
 def respell(path, turned, fields, where, both):
     text = open(path, encoding="utf-8").read()
+    if "/run_pairs/" in path:
+        turned = {a: b for a, b in turned.items() if a != "run_length"}
     kit, aliases = set(), set()
     for p, some, alias in uses(text):
         if is_repo_path(p):
@@ -195,7 +197,7 @@ def respell(path, turned, fields, where, both):
 
     def token(m):
         n = m.group(0)
-        if n not in turned:
+        if n not in turned or (path.endswith(".rt") and n in LEMMAS and "-" not in n):
             return n
         before = text[:m.start()]
         if before.endswith("."):

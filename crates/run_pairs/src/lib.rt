@@ -18,7 +18,7 @@ pub fn first_weight(i: usize) -> u64
 }
 
 // The run is not 1 to 65,536 whole rows.
-fn run_length_lem(run: &[u64]) -> bool
+fn run_length(run: &[u64]) -> bool
     ensures { result ≡ (run_length run.now).holds }
 {
     (run.len() % NUM_CPU_COLS != 0) | (run.len() == 0) | (run.len() / NUM_CPU_COLS > MAX_ROWS)
@@ -28,7 +28,7 @@ fn run_length_lem(run: &[u64]) -> bool
 pub fn run_refusal(run: &[u64], masks: &[u64]) -> u64
     ensures { result ≡ run_refusal run.now masks.now }
 {
-    if run_length_lem(run) {
+    if run_length(run) {
         return ROW_LENGTH;
     }
     if masks.len() != NUM_MASKS {

@@ -12,5 +12,5 @@ local-row c = c.requires
 returns : tie.Need-returns
 returns c = record { are = sym (search exprs depth 100 fits 100000) }
 
-pub factors-spec : {M : Type 1} → statement M
-factors-spec = tie.close (search (tie.spec, returns, places, local-row))
+pub factors_spec : {M : Type 1} → statement M
+factors_spec = tie.close (search (tie.spec, returns, places, local-row))

@@ -8,7 +8,7 @@ rows : (c : tie.Start) → Rows c.args.lv.now c.args.nv.now
 rows c = c.requires
 
 returns : tie.Need-returns
-returns c = call_sc_join _ _ _ _ c.before.keeps-call-sc-context.ensures c.keeps-call-sc-lines.ensures
+returns c = call_sc_join _ _ _ _ c.keeps_call_sc_context.ensures c.keeps_call_sc_lines.ensures
 
-pub keeps-call-sc-spec : {M : Type 1} → statement M
-keeps-call-sc-spec = tie.close (search (tie.spec, returns, rows))
+pub keeps_call_sc_spec : {M : Type 1} → statement M
+keeps_call_sc_spec = tie.close (search (tie.spec, returns, rows))

@@ -16,5 +16,5 @@ next_row c = c.requires.next
 returns : tie.Need-returns
 returns c = sym (search (and_of, same_of, local-row, next_row))
 
-pub addresses-kept-spec : {M : Type 1} → statement M
-addresses-kept-spec = tie.close (search (tie.spec, returns, places, within, local-row, next_row))
+pub addresses_kept_spec : {M : Type 1} → statement M
+addresses_kept_spec = tie.close (search (tie.spec, returns, places, within, local-row, next_row))

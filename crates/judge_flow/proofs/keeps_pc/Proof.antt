@@ -10,14 +10,14 @@ use Rattle.judge_flow.proofs.keeps_pc.Statement.{statement}
 use Rattle.judge_flow.proofs.keeps_pc.Tie as tie
 
 local-row : (c : tie.Start) → Row c.args.lv.now
-local-row c = c.pre.local
+local-row c = c.requires.local
 
 next_row : (c : tie.Start) → Row c.args.nv.now
-next_row c = c.pre.next
+next_row c = c.requires.next
 
 returns : tie.Need-returns
 unfolding rules_J
 returns c = sym (keeps _ _ _ _ _ ∙ search (pc_target_of, rules, exprs, places, local-row, next_row) depth 100 fits 100000)
 
-pub keeps-pc-spec : {M : Type 1} → statement M
-keeps-pc-spec = tie.close (search (tie.spec, returns, places, local-row, next_row))
+pub keeps_pc_spec : {M : Type 1} → statement M
+keeps_pc_spec = tie.close (search (tie.spec, returns, places, local-row, next_row))

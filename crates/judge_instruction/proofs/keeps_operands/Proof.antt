@@ -11,7 +11,7 @@ rows : (c : tie.Start) → Rows c.args.lv.now c.args.nv.now
 rows c = c.requires
 
 returns : tie.Need-returns
-returns c = operands_join _ _ c.before.before.keeps-op0.ensures c.before.keeps-op1.ensures c.keeps-dst.ensures
+returns c = operands_join _ _ c.keeps_op0.ensures c.keeps_op1.ensures c.keeps_dst.ensures
 
-pub keeps-operands-spec : {M : Type 1} → statement M
-keeps-operands-spec = tie.close (search (tie.spec, returns, rows, local-row))
+pub keeps_operands_spec : {M : Type 1} → statement M
+keeps_operands_spec = tie.close (search (tie.spec, returns, rows, local-row))

@@ -11,17 +11,17 @@ use Rattle.judge_pc_registers.proofs.fp_free.Statement.{statement}
 use Rattle.judge_pc_registers.proofs.fp_free.Tie as tie
 
 local-row : (c : tie.Start) → Row c.args.lv.now
-local-row c = c.pre
+local-row c = c.requires
 
-returns : tie.Need-returns
+returns : tie.Need-returns-in-5
 unfolding holds
-returns c = ⊎_elim (λ e. rw e) (λ e. rw e) c.match.keys1
+returns c = ⊎_elim (λ e. rw e) (λ e. rw e) c.in-5.keys1
 
-returns-2 : tie.Need-returns-2
-returns-2 c = rw c.before.match.keys2 (sym (fp_call_sc _ (search (rules, exprs, places, local-row))))
+returns-2 : tie.Need-returns-in-18
+returns-2 c = rw c.in-18.keys2 (sym (fp_call_sc _ (search (rules, exprs, places, local-row))))
 
-returns-3 : tie.Need-returns-3
-returns-3 c = sym (fp_outside _ _ ((λ e. c.match.rest.0.1 (inl e)), ((λ e. c.match.rest.0.1 (inr e)), (c.match.rest.1, tt))))
+returns-3 : tie.Need-returns-in_default
+returns-3 c = sym (fp_outside _ _ ((λ e. c.in_default.rest.0.1 (inl e)), ((λ e. c.in_default.rest.0.1 (inr e)), (c.in_default.rest.1, tt))))
 
-pub fp-free-spec : {M : Type 1} → statement M
-fp-free-spec = tie.close (search (tie.spec, returns, returns-2, returns-3, places, local-row))
+pub fp_free_spec : {M : Type 1} → statement M
+fp_free_spec = tie.close (search (tie.spec, returns, returns-2, returns-3, places, local-row))

@@ -15,14 +15,14 @@ use Rattle.judge_pc_registers.proofs.instruction_size.Tie as tie
 local-row : (c : tie.Start) → Row c.args.lv.now
 local-row c = c.requires
 
-returns : tie.Need-returns
-returns c = (sym (size_two _ c.before.before.before.args.k (omega arith) (omega arith)), lit< tt)
+returns : tie.Need-returns-in-6
+returns c = (sym (size_two _ c.args.k (omega arith) (omega arith)), lit< tt)
 
-returns-2 : tie.Need-returns-2
+returns-2 : tie.Need-returns-in_default
 returns-2 c =
-    let o : Outside c.before.before.before.before.args.k (6 ∷ 7 ∷ []) =
-    ⊎_elim (λ w. omega arith) (λ w. omega arith) c.before.before.if1.branch in
+    let o : Outside c.args.k (6 ∷ 7 ∷ []) =
+    ⊎_elim (λ w. omega arith) (λ w. omega arith) c.in_default.branch in
     (sym (size_outside _ _ o (search exprs)), search places)
 
-pub instruction-size-spec : {M : Type 1} → statement M
-instruction-size-spec = tie.close (search (tie.spec, returns, returns-2, places, local-row))
+pub instruction_size_spec : {M : Type 1} → statement M
+instruction_size_spec = tie.close (search (tie.spec, returns, returns-2, places, local-row))

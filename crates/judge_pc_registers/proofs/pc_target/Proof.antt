@@ -12,50 +12,50 @@ use Rattle.judge_pc_registers.proofs.pc_target.Statement.{statement}
 use Rattle.judge_pc_registers.proofs.pc_target.Tie as tie
 
 local-row : (c : tie.Start) → Row c.args.lv.now
-local-row c = c.pre
+local-row c = c.requires
 
-returns : tie.Need-returns
+returns : tie.Need-returns-in-2
 returns c =
     record {
       goes = λ n r. ⊎_elim
           (λ e. rw e (search (rules, exprs, places, local-row)))
           (λ e. rw e (search (rules, exprs, places, local-row)))
-          c.before.match.keys1;
+          c.in-2.keys1;
       below = search (places, local-row);
     }
 
-returns-2 : tie.Need-returns-2
+returns-2 : tie.Need-returns-in-5
 returns-2 c =
     record {
-      goes = λ n r. rw c.before.match.keys2 (search (rules, exprs, places, local-row));
+      goes = λ n r. rw c.in-5.keys2 (search (rules, exprs, places, local-row));
       below = search (places, local-row);
     }
 
-returns-3 : tie.Need-returns-3
+returns-3 : tie.Need-returns-then-lv-eq1
 returns-3 c =
     record {
-      goes = λ n r. goes-taken _ _ c.before.before.before.match.keys3 (on_true _ _ _ _ _ (search local-row) 30 c.before.if1.taken) (search (rules, exprs, places, local-row));
+      goes = λ n r. goes-taken _ _ c.in-3.keys3 (on_true _ _ _ _ _ (search local-row) 30 c.if-lv-eq1.taken) (search (rules, exprs, places, local-row));
       below = search (places, local-row);
     }
 
-returns-4 : tie.Need-returns-4
+returns-4 : tie.Need-returns-else-lv-eq1
 returns-4 c =
     record {
-      goes = λ n r. goes_left _ _ c.before.before.match.keys3 (on_false _ _ _ _ _ (search local-row) 30 c.if1.left) (search (rules, exprs, size_of, places));
+      goes = λ n r. goes_left _ _ c.in-3.keys3 (on_false _ _ _ _ _ (search local-row) 30 c.if-lv-eq1.left) (search (rules, exprs, size_of, places));
       below = search places;
     }
 
-outside : (c : tie.At-match-rest) → Outside c.before.before.before.before.before.args.k (2 ∷ 4 ∷ 5 ∷ 3 ∷ [])
+outside : (c : tie.In_default) → Outside c.args.k (2 ∷ 4 ∷ 5 ∷ 3 ∷ [])
 outside c =
-    let r = c.match.rest in
+    let r = c.in_default.rest in
     ((λ e. r.0.0.1 (inl e)), ((λ e. r.0.0.1 (inr e)), (r.0.1, (r.1, tt))))
 
-returns-5 : tie.Need-returns-5
+returns-5 : tie.Need-returns-in_default
 returns-5 c =
     record {
-      goes = λ n r. goes_outside _ c.before.before.before.before.before.args.k (outside c) (search (rules, exprs, size_of, places));
+      goes = λ n r. goes_outside _ c.args.k (outside c) (search (rules, exprs, size_of, places));
       below = search places;
     }
 
-pub pc-target-spec : {M : Type 1} → statement M
-pc-target-spec = tie.close (search (tie.spec, returns, returns-2, returns-3, returns-4, returns-5, places, size_below, local-row))
+pub pc_target_spec : {M : Type 1} → statement M
+pc_target_spec = tie.close (search (tie.spec, returns, returns-2, returns-3, returns-4, returns-5, places, size_below, local-row))

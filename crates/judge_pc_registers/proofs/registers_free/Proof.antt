@@ -10,22 +10,22 @@ use Rattle.judge_pc_registers.proofs.registers_free.Statement.{statement}
 use Rattle.judge_pc_registers.proofs.registers_free.Tie as tie
 
 local-row : (c : tie.Start) → Row c.args.lv.now
-local-row c = c.pre
+local-row c = c.requires
 
-returns : tie.Need-returns
-returns c = rw c.before.match.keys1 (sym (registers-call_sc _ (search (rules, exprs, places, local-row))))
+returns : tie.Need-returns-in-18
+returns c = rw c.in-18.keys1 (sym (registers-call_sc _ (search (rules, exprs, places, local-row))))
 
-returns-2 : tie.Need-returns-2
-returns-2 c = rw c.before.match.keys2 (sym (registers-end _ (search (rules, exprs, places, local-row))))
+returns-2 : tie.Need-returns-in-8
+returns-2 c = rw c.in-8.keys2 (sym (registers-end _ (search (rules, exprs, places, local-row))))
 
-returns-3 : tie.Need-returns-3
-returns-3 c = sym (registers_true _ c.before.before.before.args.k (omega arith) (omega arith))
+returns-3 : tie.Need-returns-in-14
+returns-3 c = sym (registers_true _ c.args.k (omega arith) (omega arith))
 
-returns-4 : tie.Need-returns-4
-returns-4 c = sym (registers_outside _ c.before.before.args.k (omega arith))
+returns-4 : tie.Need-returns-in_default
+returns-4 c = sym (registers_outside _ c.args.k (omega arith))
 
-returns-5 : tie.Need-returns-5
-returns-5 c = sym (registers_outside _ c.before.before.before.args.k (omega arith))
+returns-5 : tie.Need-returns-in_default-2
+returns-5 c = sym (registers_outside _ c.args.k (omega arith))
 
-pub registers-free-spec : {M : Type 1} → statement M
-registers-free-spec = tie.close (search (tie.spec, returns, returns-2, returns-3, returns-4, returns-5, places, local-row))
+pub registers_free_spec : {M : Type 1} → statement M
+registers_free_spec = tie.close (search (tie.spec, returns, returns-2, returns-3, returns-4, returns-5, places, local-row))

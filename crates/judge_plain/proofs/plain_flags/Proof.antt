@@ -17,5 +17,5 @@ next_row c = c.requires.next
 returns : tie.Need-returns
 returns c = sym (plain-is _ _ ∙ search (bit_of, selectors_of, ones_of, eqb_of, both) depth 100 fits 100000)
 
-pub plain-flags-spec : {M : Type 1} → statement M
-plain-flags-spec = tie.close (search (tie.spec, returns, places, local-row, next_row))
+pub plain_flags_spec : {M : Type 1} → statement M
+plain_flags_spec = tie.close (search (tie.spec, returns, places, local-row, next_row))

@@ -8,7 +8,7 @@ rows : (c : tie.Start) → Rows c.args.lv.now c.args.nv.now
 rows c = c.requires
 
 returns : tie.Need-returns
-returns c = tape-join _ _ _ c.before.keeps-tape-lines.ensures c.keeps-tp.ensures
+returns c = tape-join _ _ _ c.keeps_tape_lines.ensures c.keeps_tp.ensures
 
-pub keeps-tape-spec : {M : Type 1} → statement M
-keeps-tape-spec = tie.close (search (tie.spec, returns, rows))
+pub keeps_tape_spec : {M : Type 1} → statement M
+keeps_tape_spec = tie.close (search (tie.spec, returns, rows))

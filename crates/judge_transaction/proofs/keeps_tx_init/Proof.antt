@@ -10,14 +10,14 @@ use Rattle.judge_transaction.proofs.keeps_tx_init.Statement.{statement}
 use Rattle.judge_transaction.proofs.keeps_tx_init.Tie as tie
 
 local-row : (c : tie.Start) → Row c.args.lv.now
-local-row c = c.pre.local
+local-row c = c.requires.local
 
 next_row : (c : tie.Start) → Row c.args.nv.now
-next_row c = c.pre.next
+next_row c = c.requires.next
 
 returns : tie.Need-returns
 unfolding rules_B
 returns c = sym (keeps _ _ _ _ _ ∙ search (zeros_of, next_zeros_of, rules, chains, exprs, places, local-row, next_row) depth 100 fits 100000)
 
-pub keeps-tx-init-spec : {M : Type 1} → statement M
-keeps-tx-init-spec = tie.close (search (tie.spec, returns, places, local-row, next_row))
+pub keeps_tx_init_spec : {M : Type 1} → statement M
+keeps_tx_init_spec = tie.close (search (tie.spec, returns, places, local-row, next_row))

@@ -9,14 +9,14 @@ use Rattle.cpu_context.proofs.body.body_ctx_regs.Statement.{statement}
 use Rattle.cpu_context.proofs.body.body_ctx_regs.Tie as tie
 
 local-row : (c : tie.Start) → Row c.args.lv.now
-local-row c = c.requires.0.local
+local-row c = c.requires.rows.local
 
 next_row : (c : tie.Start) → Row c.args.nv.now
-next_row c = c.requires.0.next
+next_row c = c.requires.rows.next
 
 returns : tie.Need-returns
 unfolding body_ctx_regs
 returns c = sym (search (exprs, registers) depth 100 fits 100000)
 
-pub body-ctx-regs-spec : {M : Type 1} → statement M
-body-ctx-regs-spec = tie.close (search (tie.spec, returns, places, local-row, next_row))
+pub body_ctx_regs_spec : {M : Type 1} → statement M
+body_ctx_regs_spec = tie.close (search (tie.spec, returns, places, local-row, next_row))

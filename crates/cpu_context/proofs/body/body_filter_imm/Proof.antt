@@ -15,5 +15,5 @@ returns : tie.Need-returns
 unfolding values body_filter_imm
 returns c = sym (search exprs depth 100 fits 100000)
 
-pub body-filter-imm-spec : {M : Type 1} → statement M
-body-filter-imm-spec = tie.close (search (tie.spec, returns, places, local-row))
+pub body_filter_imm_spec : {M : Type 1} → statement M
+body_filter_imm_spec = tie.close (search (tie.spec, returns, places, local-row))

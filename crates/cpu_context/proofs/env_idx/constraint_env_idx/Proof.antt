@@ -9,14 +9,14 @@ use Rattle.cpu_context.proofs.env_idx.constraint_env_idx.Statement.{statement}
 use Rattle.cpu_context.proofs.env_idx.constraint_env_idx.Tie as tie
 
 local-row : (c : tie.Start) → Row c.args.lv.now
-local-row c = c.requires.0.local
+local-row c = c.requires.rows.local
 
 next_row : (c : tie.Start) → Row c.args.nv.now
-next_row c = c.requires.0.next
+next_row c = c.requires.rows.next
 
 returns : tie.Need-returns
 unfolding values constraint_env_idx
 returns c = sym (search exprs depth 100 fits 100000)
 
-pub constraint-env-idx-spec : {M : Type 1} → statement M
-constraint-env-idx-spec = tie.close (search (tie.spec, returns, places, local-row, next_row))
+pub constraint_env_idx_spec : {M : Type 1} → statement M
+constraint_env_idx_spec = tie.close (search (tie.spec, returns, places, local-row, next_row))

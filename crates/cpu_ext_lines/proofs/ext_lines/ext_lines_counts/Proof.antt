@@ -13,22 +13,22 @@ use Rattle.cpu_ext_lines.proofs.ext_lines.ext_lines_counts.Statement.{statement}
 use Rattle.cpu_ext_lines.proofs.ext_lines.ext_lines_counts.Tie as tie
 
 local-row : (c : tie.Start) → Row c.args.lv.now
-local-row c = c.requires.0.local
+local-row c = c.requires.rows.local
 
 next_row : (c : tie.Start) → Row c.args.nv.now
-next_row c = c.requires.0.next
+next_row c = c.requires.rows.next
 
 length : (c : tie.Start) → ValueOf lv_ext_length c.args.lv.now c.args.nv.now c.args.ext-length
 unfolding lv_ext_length
-length c = shared_of c.requires.1 _ tt 0 _ refl
+length c = shared_of c.requires.length _ tt 0 _ refl
 
 length-below : (c : tie.Start) → c.args.ext-length < p
 unfolding lv_ext_length
-length-below c = shared_below c.requires.1 0 tt
+length-below c = shared_below c.requires.length 0 tt
 
 returns : tie.Need-returns
 unfolding values ext_lines_counts
 returns c = sym (search (exprs, helpers, length) depth 100 fits 100000)
 
-pub ext-lines-counts-spec : {M : Type 1} → statement M
-ext-lines-counts-spec = tie.close (search (tie.spec, returns, places, is-ext_inst_below, length-below, local-row, next_row))
+pub ext_lines_counts_spec : {M : Type 1} → statement M
+ext_lines_counts_spec = tie.close (search (tie.spec, returns, places, is-ext_inst_below, length-below, local-row, next_row))

@@ -18,5 +18,5 @@ returns : tie.Need-returns
 unfolding values ext_lines_opcode
 returns c = sym (search exprs depth 100 fits 100000)
 
-pub ext-lines-opcode-spec : {M : Type 1} → statement M
-ext-lines-opcode-spec = tie.close (search (tie.spec, returns, places, local-row, next_row))
+pub ext_lines_opcode_spec : {M : Type 1} → statement M
+ext_lines_opcode_spec = tie.close (search (tie.spec, returns, places, local-row, next_row))

@@ -18,5 +18,5 @@ returns : tie.Need-returns
 unfolding values constraint_env_unchanged_clk
 returns c = sym (search exprs depth 100 fits 100000)
 
-pub constraint-env-unchanged-clk-spec : {M : Type 1} → statement M
-constraint-env-unchanged-clk-spec = tie.close (search (tie.spec, returns, places, local-row, next_row))
+pub constraint_env_unchanged_clk_spec : {M : Type 1} → statement M
+constraint_env_unchanged_clk_spec = tie.close (search (tie.spec, returns, places, local-row, next_row))

@@ -12,17 +12,17 @@ use Rattle.cpu_flow.proofs.env_unchanged.constraint_env_unchanged_pc.Statement.{
 use Rattle.cpu_flow.proofs.env_unchanged.constraint_env_unchanged_pc.Tie as tie
 
 local-row : (c : tie.Start) → Row c.args.lv.now
-local-row c = c.requires.0.local
+local-row c = c.requires.rows.local
 
 next_row : (c : tie.Start) → Row c.args.nv.now
-next_row c = c.requires.0.next
+next_row c = c.requires.rows.next
 
 clk : (c : tie.Start) → ValueOf clk_kept c.args.lv.now c.args.nv.now c.args.clk-kept
-clk c = shared_of c.requires.1 _ refl 0 _ refl
+clk c = shared_of c.requires.clk _ refl 0 _ refl
 
 returns : tie.Need-returns
 unfolding values constraint_env_unchanged_pc
 returns c = sym (search (exprs, pc_next_of, clk) depth 100 fits 100000)
 
-pub constraint-env-unchanged-pc-spec : {M : Type 1} → statement M
-constraint-env-unchanged-pc-spec = tie.close (search (tie.spec, returns, places, pc_next-below, local-row, next_row))
+pub constraint_env_unchanged_pc_spec : {M : Type 1} → statement M
+constraint_env_unchanged_pc_spec = tie.close (search (tie.spec, returns, places, pc_next-below, local-row, next_row))

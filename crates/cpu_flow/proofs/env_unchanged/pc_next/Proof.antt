@@ -16,5 +16,5 @@ returns : tie.Need-returns
 unfolding pc_next
 returns c = (sym (search (exprs, wide_sums, instruction_size_of) depth 100 fits 100000), search reduced_below)
 
-pub pc-next-spec : {M : Type 1} → statement M
-pc-next-spec = tie.close (search (tie.spec, returns, places, reduced_below, instruction_size-below, local-row))
+pub pc_next_spec : {M : Type 1} → statement M
+pc_next_spec = tie.close (search (tie.spec, returns, places, reduced_below, instruction_size-below, local-row))

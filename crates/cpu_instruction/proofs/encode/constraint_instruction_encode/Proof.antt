@@ -16,5 +16,5 @@ returns : tie.Need-returns
 unfolding values constraint_instruction_encode
 returns c = sym (search (exprs, helpers) depth 100 fits 100000)
 
-pub constraint-instruction-encode-spec : {M : Type 1} → statement M
-constraint-instruction-encode-spec = tie.close (search (tie.spec, returns, places, helpers_below, row))
+pub constraint_instruction_encode_spec : {M : Type 1} → statement M
+constraint_instruction_encode_spec = tie.close (search (tie.spec, returns, places, helpers_below, row))

@@ -17,5 +17,5 @@ returns : tie.Need-returns
 unfolding instruction
 returns c = (sym (search (exprs, helpers, wide_sums, tt) depth 100 fits 100000), search sum_below)
 
-pub instruction-spec : {M : Type 1} → statement M
-instruction-spec = tie.close (search (tie.spec, returns, places, loop_places, helpers_below, reduced_below, row))
+pub instruction_spec : {M : Type 1} → statement M
+instruction_spec = tie.close (search (tie.spec, returns, places, loop_places, helpers_below, reduced_below, row))

@@ -20,5 +20,5 @@ returns : tie.Need-returns
 unfolding values operand_sums
 returns c = sym (search (exprs, helpers, part_length, local-row, tt) depth 100 fits 100000)
 
-pub operand-sums-spec : {M : Type 1} → statement M
-operand-sums-spec = tie.close (search (tie.spec, returns, places, loop_places, helpers_below, local-row, next_row))
+pub operand_sums_spec : {M : Type 1} → statement M
+operand_sums_spec = tie.close (search (tie.spec, returns, places, loop_places, helpers_below, local-row, next_row))

@@ -10,13 +10,13 @@ use Rattle.cpu_opcode_selector.proofs.selectors.cal_opcode.Statement.{statement}
 use Rattle.cpu_opcode_selector.proofs.selectors.cal_opcode.Tie as tie
 
 row : (c : tie.Start) → Row c.args.lv.now
-row c = c.requires.0
+row c = c.requires.row
 
 masks : (c : tie.Start) → Masks c.args.masks.now
-masks c = c.requires.1
+masks c = c.requires.masks
 
 returns : tie.Need-returns
 returns c = (sym (opcode_parts _ ∙ search (exprs, helpers, part_length, row, tt)), search helpers_below)
 
-pub cal-opcode-spec : {M : Type 1} → statement M
-cal-opcode-spec = tie.close (search (tie.spec, returns, places, loop_places, helpers_below, row, masks))
+pub cal_opcode_spec : {M : Type 1} → statement M
+cal_opcode_spec = tie.close (search (tie.spec, returns, places, loop_places, helpers_below, row, masks))

@@ -9,14 +9,14 @@ use Rattle.cpu_opcode_selector.proofs.selectors.opcode_products.Statement.{state
 use Rattle.cpu_opcode_selector.proofs.selectors.opcode_products.Tie as tie
 
 row : (c : tie.Start) → Row c.args.lv.now
-row c = c.requires.0
+row c = c.requires.row
 
 masks : (c : tie.Start) → Masks c.args.masks.now
-masks c = c.requires.1
+masks c = c.requires.masks
 
 returns : tie.Need-returns
 unfolding values opcode_products
 returns c = sym (search exprs depth 100 fits 100000)
 
-pub opcode-products-spec : {M : Type 1} → statement M
-opcode-products-spec = tie.close (search (tie.spec, returns, places, row, masks))
+pub opcode_products_spec : {M : Type 1} → statement M
+opcode_products_spec = tie.close (search (tie.spec, returns, places, row, masks))

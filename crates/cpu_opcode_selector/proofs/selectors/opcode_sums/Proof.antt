@@ -11,14 +11,14 @@ use Rattle.cpu_opcode_selector.proofs.selectors.opcode_sums.Statement.{statement
 use Rattle.cpu_opcode_selector.proofs.selectors.opcode_sums.Tie as tie
 
 row : (c : tie.Start) → Row c.args.lv.now
-row c = c.requires.0
+row c = c.requires.row
 
 masks : (c : tie.Start) → Masks c.args.masks.now
-masks c = c.requires.1
+masks c = c.requires.masks
 
 returns : tie.Need-returns
 unfolding values opcode_sums
 returns c = sym (search (exprs, helpers, part_length, row, tt) depth 100 fits 100000)
 
-pub opcode-sums-spec : {M : Type 1} → statement M
-opcode-sums-spec = tie.close (search (tie.spec, returns, places, loop_places, helpers_below, row, masks))
+pub opcode_sums_spec : {M : Type 1} → statement M
+opcode_sums_spec = tie.close (search (tie.spec, returns, places, loop_places, helpers_below, row, masks))

@@ -9,14 +9,14 @@ use Rattle.cpu_registers.proofs.reg_consistency.fp_consistency.Statement.{statem
 use Rattle.cpu_registers.proofs.reg_consistency.fp_consistency.Tie as tie
 
 local-row : (c : tie.Start) → Row c.args.lv.now
-local-row c = c.requires.0.local
+local-row c = c.requires.rows.local
 
 next_row : (c : tie.Start) → Row c.args.nv.now
-next_row c = c.requires.0.next
+next_row c = c.requires.rows.next
 
 returns : tie.Need-returns
 unfolding values fp_consistency
 returns c = sym (search (exprs, part_of, tt) depth 100 fits 100000)
 
-pub fp-consistency-spec : {M : Type 1} → statement M
-fp-consistency-spec = tie.close (search (tie.spec, returns, places, local-row, next_row))
+pub fp_consistency_spec : {M : Type 1} → statement M
+fp_consistency_spec = tie.close (search (tie.spec, returns, places, local-row, next_row))

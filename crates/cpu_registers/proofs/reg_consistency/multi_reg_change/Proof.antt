@@ -15,5 +15,5 @@ returns : tie.Need-returns
 unfolding multi_reg_change
 returns c = (sym (search (exprs, wide_sums, places) depth 100 fits 100000), search reduced_below)
 
-pub multi-reg-change-spec : {M : Type 1} → statement M
-multi-reg-change-spec = tie.close (search (tie.spec, returns, places, reduced_below, local-row))
+pub multi_reg_change_spec : {M : Type 1} → statement M
+multi_reg_change_spec = tie.close (search (tie.spec, returns, places, reduced_below, local-row))

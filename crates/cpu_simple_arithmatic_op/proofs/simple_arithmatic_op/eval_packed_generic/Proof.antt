@@ -10,14 +10,14 @@ use Rattle.cpu_simple_arithmatic_op.proofs.simple_arithmatic_op.eval_packed_gene
 use Rattle.cpu_simple_arithmatic_op.proofs.simple_arithmatic_op.eval_packed_generic.Tie as tie
 
 local-row : (c : tie.Start) → Row c.args.lv.now
-local-row c = c.requires.0
+local-row c = c.requires.row
 
 all-masks : (c : tie.Start) → Masks c.args.masks.now
-all-masks c = c.requires.1
+all-masks c = c.requires.masks
 
 returns : tie.Need-returns
 unfolding values simple_arithmatic_op
 returns c = sym (search (exprs, ops) depth 100 fits 100000)
 
-pub eval-packed-generic-spec : {M : Type 1} → statement M
-eval-packed-generic-spec = tie.close (search (tie.spec, returns, places, local-row, all-masks))
+pub eval_packed_generic_spec : {M : Type 1} → statement M
+eval_packed_generic_spec = tie.close (search (tie.spec, returns, places, local-row, all-masks))

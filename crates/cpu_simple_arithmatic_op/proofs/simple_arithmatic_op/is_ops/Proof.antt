@@ -21,5 +21,5 @@ returns : tie.Need-returns
 unfolding all_but_one
 returns c = sym (cons (last_three _ _ _ _ _ (search mul_of)) (cons (last_three _ _ _ _ _ (search mul_of)) (cons (last_two _ _ _ (search mul_of)) (cons (search mul_of) (search (cons, mul_of))))))
 
-pub is-ops-spec : {M : Type 1} → statement M
-is-ops-spec = tie.close (search (tie.spec, returns, tt))
+pub is_ops_spec : {M : Type 1} → statement M
+is_ops_spec = tie.close (search (tie.spec, returns, tt))

@@ -11,20 +11,20 @@ use Rattle.cpu_tape.proofs.tape.tape_first_ext_line.Statement.{statement}
 use Rattle.cpu_tape.proofs.tape.tape_first_ext_line.Tie as tie
 
 local-row : (c : tie.Start) → Row c.args.lv.now
-local-row c = c.requires.0.local
+local-row c = c.requires.rows.local
 
 next_row : (c : tie.Start) → Row c.args.nv.now
-next_row c = c.requires.0.next
+next_row c = c.requires.rows.next
 
 factor : (c : tie.Start) → ValuesOf row_factors c.args.lv.now c.args.nv.now c.args.factors.now
-factor c = shared_of c.requires.1 _ tt
+factor c = shared_of c.requires.factors _ tt
 
 factor-place : (c : tie.Start) → PlacesOf row_factors c.args.factors.now
-factor-place c = shared_place c.requires.1
+factor-place c = shared_place c.requires.factors
 
 returns : tie.Need-returns
 unfolding values tape_first_ext_line
 returns c = sym (search (exprs, factor) depth 100 fits 100000)
 
-pub tape-first-ext-line-spec : {M : Type 1} → statement M
-tape-first-ext-line-spec = tie.close (search (tie.spec, returns, places, factor-place, local-row, next_row))
+pub tape_first_ext_line_spec : {M : Type 1} → statement M
+tape_first_ext_line_spec = tie.close (search (tie.spec, returns, places, factor-place, local-row, next_row))

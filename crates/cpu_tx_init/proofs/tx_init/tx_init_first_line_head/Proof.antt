@@ -9,11 +9,11 @@ use Rattle.cpu_tx_init.proofs.tx_init.tx_init_first_line_head.Statement.{stateme
 use Rattle.cpu_tx_init.proofs.tx_init.tx_init_first_line_head.Tie as tie
 
 local-row : (c : tie.Start) → Row c.args.lv.now
-local-row c = c.requires.0
+local-row c = c.requires.row
 
 returns : tie.Need-returns
 unfolding values tx_init_first_line_head
 returns c = sym (search exprs depth 100 fits 100000)
 
-pub tx-init-first-line-head-spec : {M : Type 1} → statement M
-tx-init-first-line-head-spec = tie.close (search (tie.spec, returns, places, local-row))
+pub tx_init_first_line_head_spec : {M : Type 1} → statement M
+tx_init_first_line_head_spec = tie.close (search (tie.spec, returns, places, local-row))

@@ -8,11 +8,11 @@ use Rattle.cpu_tx_init.proofs.tx_init.tx_init_first_line_regs.Statement.{stateme
 use Rattle.cpu_tx_init.proofs.tx_init.tx_init_first_line_regs.Tie as tie
 
 local-row : (c : tie.Start) → Row c.args.lv.now
-local-row c = c.requires.0
+local-row c = c.requires.row
 
 returns : tie.Need-returns
 unfolding tx_init_first_line_regs
 returns c = sym (search registers)
 
-pub tx-init-first-line-regs-spec : {M : Type 1} → statement M
-tx-init-first-line-regs-spec = tie.close (search (tie.spec, returns, places, local-row))
+pub tx_init_first_line_regs_spec : {M : Type 1} → statement M
+tx_init_first_line_regs_spec = tie.close (search (tie.spec, returns, places, local-row))

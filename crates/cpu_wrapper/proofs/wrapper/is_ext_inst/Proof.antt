@@ -14,5 +14,5 @@ returns : tie.Need-returns
 unfolding lv_is_ext_inst
 returns c = (sym (search exprs depth 100 fits 100000), search sum_below)
 
-pub is-ext-inst-spec : {M : Type 1} → statement M
-is-ext-inst-spec = tie.close (search (tie.spec, returns, places, local-row))
+pub is_ext_inst_spec : {M : Type 1} → statement M
+is_ext_inst_spec = tie.close (search (tie.spec, returns, places, local-row))

@@ -15,5 +15,5 @@ returns : tie.Need-returns
 unfolding lv_ext_length
 returns c = (sym (search (exprs, wide_sums, places) depth 100 fits 100000), search reduced_below)
 
-pub lv-ext-length-spec : {M : Type 1} → statement M
-lv-ext-length-spec = tie.close (search (tie.spec, returns, places, reduced_below, local-row))
+pub lv_ext_length_spec : {M : Type 1} → statement M
+lv_ext_length_spec = tie.close (search (tie.spec, returns, places, reduced_below, local-row))

@@ -12,26 +12,26 @@ use Rattle.judge_kinds.proofs.selected.ext_length.Tie as tie
 local-row : (c : tie.Start) → Row c.args.lv.now
 local-row c = c.requires
 
-returns : tie.Need-returns
-returns c = (rw c.before.before.before.before.before.before.match.keys2 (sym (search exprs)), search places)
+returns : tie.Need-returns-in-16
+returns c = (rw c.in-16.keys2 (sym (search exprs)), search places)
 
-returns-2 : tie.Need-returns-2
-returns-2 c = (rw c.before.match.keys3 (sym (search exprs)), search (places, local-row))
+returns-2 : tie.Need-returns-in-17
+returns-2 c = (rw c.in-17.keys3 (sym (search exprs)), search (places, local-row))
 
-returns-3 : tie.Need-returns-3
-returns-3 c = (rw c.before.before.match.keys4 (sym (search exprs)), search places)
+returns-3 : tie.Need-returns-in-8
+returns-3 c = (rw c.in-8.keys4 (sym (search exprs)), search places)
 
-returns-4 : tie.Need-returns-4
-returns-4 c = (sym (length_outside _ c.before.before.before.args.k (omega arith)), lit< tt)
+returns-4 : tie.Need-returns-in_default
+returns-4 c = (sym (length_outside _ c.args.k (omega arith)), lit< tt)
 
-returns-5 : tie.Need-returns-5
-returns-5 c = (sym (length_outside _ c.before.before.before.before.args.k (omega arith)), lit< tt)
+returns-5 : tie.Need-returns-in_default-2
+returns-5 c = (sym (length_outside _ c.args.k (omega arith)), lit< tt)
 
-returns-6 : tie.Need-returns-6
-returns-6 c = (rw c.match.keys1 (sym (search exprs)), lit< tt)
+returns-6 : tie.Need-returns-in-14
+returns-6 c = (rw c.in-14.keys1 (sym (search exprs)), lit< tt)
 
-returns-7 : tie.Need-returns-7
-returns-7 c = (sym (length-one _ c.before.before.before.before.args.k (omega arith) (omega arith)), lit< tt)
+returns-7 : tie.Need-returns-in-14-2
+returns-7 c = (sym (length-one _ c.args.k (omega arith) (omega arith)), lit< tt)
 
-pub ext-length-spec : {M : Type 1} → statement M
-ext-length-spec = tie.close (search (tie.spec, returns, returns-2, returns-3, returns-4, returns-5, returns-6, returns-7, places, local-row))
+pub ext_length_spec : {M : Type 1} → statement M
+ext_length_spec = tie.close (search (tie.spec, returns, returns-2, returns-3, returns-4, returns-5, returns-6, returns-7, places, local-row))

@@ -8,10 +8,10 @@ use Rattle.judge_kinds.proofs.selected.next_is_ext_kind.Statement.{statement}
 use Rattle.judge_kinds.proofs.selected.next_is_ext_kind.Tie as tie
 
 next_row : (c : tie.Start) → Row c.args.nv.now
-next_row c = c.pre
+next_row c = c.requires
 
 returns : tie.Need-returns
 returns c = sym (search (rules, choices, exprs, places, next_row) depth 100 fits 100000)
 
-pub next-is-ext-kind-spec : {M : Type 1} → statement M
-next-is-ext-kind-spec = tie.close (search (tie.spec, returns, places, next_row))
+pub next_is_ext_kind_spec : {M : Type 1} → statement M
+next_is_ext_kind_spec = tie.close (search (tie.spec, returns, places, next_row))

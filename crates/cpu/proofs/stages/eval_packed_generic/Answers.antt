@@ -1,0 +1,21 @@
+-- `cpu::stages::eval_packed_generic` meets its contract.
+use mathlib.Core.Path.{sym}
+use Prim.Native.Nat.{◌≤◌}
+use native.Mathlib.Omega.{arith}
+use lib.ListN.{length}
+use borrow.Author.Rules.{rules}
+use Rattle.table.specs.Table.{pair_values}
+use Rattle.cpu.proofs.Whole.{table_is, stages}
+use Rattle.cpu.proofs.stages.eval_packed_generic.Goals as goal
+use Rattle.cpu.proofs.stages.eval_packed_generic.Goals.{Start}
+
+room : (c : Start) → 0 ≤ length c.args.out.now
+room c = omega arith
+
+pub eval_opcodes-requires : goal.eval_opcodes-requires
+eval_opcodes-requires c =
+    (c.requires.rows, (c.requires.masks, (c.requires.z, omega (arith, c.requires.room, c.out-1.given, c.out-2-1.given, c.out-3-1.given))))
+
+pub returns : goal.returns
+unfolding pair_values
+returns c = rw table_is (sym (search (stages, room) depth 30 fits 100000))

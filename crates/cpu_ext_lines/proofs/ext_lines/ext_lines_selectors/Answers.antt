@@ -1,0 +1,44 @@
+-- `cpu_ext_lines::ext_lines::ext_lines_selectors` meets its contract.
+use Prim.Native.Nat.{◌≤◌, ◌<◌, ◌-◌}
+use mathlib.Core.Path.{◌≡◌, refl, sym, ◌∙◌}
+use native.Mathlib.Omega.{arith}
+use lib.ListN.{length, take, get_or, length-set}
+use Rattle.residue.specs.Residues.{sub_p, mul_p}
+use Rattle.residue.proofs.Called.{sub_of, mul_of}
+use Rattle.table.specs.Columns.{NUM-OP-SELECTOR, COL-S-SIMPLE-ARITHMATIC-OP, COL-IS-EXT-LINE}
+use Rattle.table.specs.Rows.{Row}
+use Rattle.table.specs.Cells.{nv}
+use Rattle.table.specs.CpuStark.{ext_lines_selectors}
+use Rattle.table.proofs.Called.{exprs}
+use Rattle.table.proofs.Rows.{both, part-below}
+use Rattle.parts.specs.Parts.{up_to}
+use Rattle.parts.proofs.Laws.{filled, up_to-none, up_to-step, each-is}
+use Rattle.cpu_ext_lines.proofs.Laws.{kept_of}
+use Rattle.cpu_ext_lines.proofs.ext_lines.ext_lines_selectors.Goals as goal
+use Rattle.cpu_ext_lines.proofs.ext_lines.ext_lines_selectors.Goals.{Start}
+
+local-row : (c : Start) → Row c.args.lv.now
+local-row c = c.requires.local
+
+next_row : (c : Start) → Row c.args.nv.now
+next_row c = c.requires.next
+
+pub loop-i-init : goal.loop-i-init
+loop-i-init c = (omega arith, refl, search up_to-none)
+
+pub sub-requires : goal.sub-requires
+sub-requires c = search (both, part-below, local-row, next_row)
+
+pub loop-i-preserved : goal.loop-i-preserved
+loop-i-preserved c =
+    let h : c.loop-i.i < length c.loop-i.out = omega arith in
+    (omega arith, simp length-set (omega arith), up_to-step _ _ _ _ h c.loop-i.invariant.2 (sym (search (mul_of, sub_of))))
+
+pub returns : goal.returns
+unfolding ext_lines_selectors
+returns c =
+    let e : c.loop-i.i ≡ NUM-OP-SELECTOR = omega arith in
+    filled NUM-OP-SELECTOR _ _ c.loop-i.invariant.1 (rw e at c.loop-i.invariant.2)
+    ∙ sym
+    (each-is _ NUM-OP-SELECTOR _ _
+    (λ i h. kept_of _ _ _ _ _ (nv COL-IS-EXT-LINE) COL-S-SIMPLE-ARITHMATIC-OP NUM-OP-SELECTOR i h (search exprs)))

@@ -1,0 +1,53 @@
+-- `cpu_registers::reg_consistency::dst_reg_changes` meets its contract.
+use Prim.Native.Nat.{◌≤◌, ◌<◌, ◌-◌}
+use mathlib.Core.Path.{◌≡◌, refl, sym, ap₂, ◌∙◌}
+use native.Mathlib.Omega.{arith}
+use lib.ListN.{length, take, get_or, length-set}
+use Rattle.algebra.specs.Expr.{◌⊖◌}
+use Rattle.residue.specs.Residues.{sub_p, mul_p}
+use Rattle.residue.proofs.Laws.{mul_p_word}
+use Rattle.table.specs.Rows.{Row}
+use Rattle.table.specs.Entry.{𝟙}
+use Rattle.table.specs.CpuStark.{multi_reg_change, dst_reg_changes}
+use Rattle.table.proofs.Called.{exprs}
+use Rattle.table.proofs.Rows.{places, part-below}
+use Rattle.parts.specs.Parts.{up_to}
+use Rattle.parts.proofs.Laws.{filled, up_to-none, up_to-step, each-is}
+use Rattle.cpu_registers.proofs.Laws.{kept_of}
+use Rattle.cpu_registers.proofs.Calls.{multi_reg_change_of, multi_reg_change-below}
+use Rattle.cpu_registers.proofs.reg_consistency.dst_reg_changes.Goals as goal
+use Rattle.cpu_registers.proofs.reg_consistency.dst_reg_changes.Goals.{Start}
+
+local-row : (c : Start) → Row c.args.lv.now
+local-row c = c.requires.rows.local
+
+next_row : (c : Start) → Row c.args.nv.now
+next_row c = c.requires.rows.next
+
+pub multi_reg_change-requires : goal.multi_reg_change-requires
+multi_reg_change-requires c = search local-row
+
+pub sub-requires : goal.sub-requires
+sub-requires c = search (places, multi_reg_change-below)
+
+pub loop-i-init : goal.loop-i-init
+loop-i-init c = (omega arith, refl, search up_to-none)
+
+pub one_minus-requires : goal.one_minus-requires
+one_minus-requires c = search (part-below, local-row)
+
+pub sub-requires-in-loop-i : goal.sub-requires-in-loop-i
+sub-requires-in-loop-i c = search (places, part-below, local-row, next_row)
+
+pub loop-i-preserved : goal.loop-i-preserved
+loop-i-preserved c =
+    let h : c.loop-i.i < length c.loop-i.out = omega arith in
+    let e = c.mul.ensures.value ∙ mul_p_word _ _ c.one_minus.ensures in
+    (omega arith, simp length-set (omega arith), up_to-step _ _ _ _ h c.loop-i.invariant.2 (c.mul-in-loop-i.ensures.value ∙ ap₂ mul_p e c.sub-in-loop-i.ensures.value))
+
+pub returns : goal.returns
+unfolding dst_reg_changes
+returns c =
+    let e : c.loop-i.i ≡ 9 = omega arith in
+    filled 9 _ _ c.loop-i.invariant.1 (rw e at c.loop-i.invariant.2)
+    ∙ sym (each-is _ 9 _ _ (λ i h. kept_of _ _ _ _ _ _ (𝟙 ⊖ multi_reg_change) _ _ i (omega arith) (search (exprs, multi_reg_change_of))))

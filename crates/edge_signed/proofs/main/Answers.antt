@@ -1,0 +1,21 @@
+-- `edge_signed::main` meets its contract.
+use mathlib.Core.Path.{refl}
+use borrow.Author.Rules.{rules}
+use Rattle.refusals.specs.Refusal.{canonical}
+use Rattle.field_signed.specs.Signed.{signed_of}
+use Rattle.edge_signed.proofs.main.Goals as goal
+
+pub both-requires : goal.both-requires
+both-requires c = (refl, refl)
+
+pub both-requires-2 : goal.both-requires-2
+both-requires-2 c = (refl, refl)
+
+pub both-requires-3 : goal.both-requires-3
+both-requires-3 c = (refl, refl)
+
+pub both-requires-4 : goal.both-requires-4
+both-requires-4 c = (refl, refl)
+
+pub both-requires-5 : goal.both-requires-5
+both-requires-5 c = (refl, refl)

@@ -1,0 +1,15 @@
+use Prim.Native.Nat.{◌+◌, ◌≤◌, ◌<◌, ◌-◌}
+use mathlib.Core.Path.{◌≡◌}
+use mathlib.Core.Logic.{⊎_elim}
+use native.Mathlib.Omega.{arith}
+use lib.ListN.{get_or}
+use Rattle.rulebook.specs.Kind.{ones}
+use Rattle.judge_columns.proofs.Counts.{ones_none, ones-one, ones_other, ones_all}
+use Rattle.judge_columns.proofs.ones.Given as goal
+
+abbrev pub invariant-loop-i : goal.invariant-loop-i
+invariant-loop-i l =
+    (l.i ≤ l.n) × (l.count ≤ l.i) × (ones (λ c. get_or l.row c 0) l.start l.n ≡ l.count + ones (λ c. get_or l.row c 0) (l.start + l.i) (l.n - l.i))
+
+abbrev pub decreases-loop-i : goal.decreases-loop-i
+decreases-loop-i l = l.n - l.i

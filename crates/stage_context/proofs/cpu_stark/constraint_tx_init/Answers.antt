@@ -1,0 +1,29 @@
+-- `stage_context::cpu_stark::constraint_tx_init` meets its contract.
+use mathlib.Core.Path.{sym}
+use Prim.Native.Nat.{◌+◌, ◌^◌, ◌<◌, ◌≤◌}
+use native.Mathlib.Omega.{arith}
+use lib.ListN.{length}
+use borrow.Author.Rules.{rules}
+use Rattle.table.specs.CpuStark.{constraint_tx_init}
+use Rattle.parts.proofs.Written.{put_of, put_next}
+use Rattle.cpu_tx_init.proofs.Groups.{groups}
+use Rattle.stage_context.proofs.Lengths.{lengths}
+use Rattle.stage_context.proofs.cpu_stark.constraint_tx_init.Goals as goal
+use Rattle.stage_context.proofs.cpu_stark.constraint_tx_init.Goals.{After-slice_known-1, Start}
+
+room : (c : Start) → c.args.at ≤ length c.args.out.now
+room c = omega (arith, c.requires.room)
+
+fits : (c : After-slice_known-1) → c.args.at + 31 < 2 ^ 64
+fits c = omega (arith, c.requires.room)
+
+pub overflow_add-at-3 : goal.overflow_add-at-3
+overflow_add-at-3 c = omega (arith, fits c.before.before.before.before.before.before.before.before.before.before.before.before.before.before.before.before.before.before.before.before)
+
+pub put-requires-4 : goal.put-requires-4
+put-requires-4 c =
+    omega (arith, c.requires.room, c.out-1.given, c.out-2-1.given, c.out-3-1.given)
+
+pub returns : goal.returns
+unfolding constraint_tx_init
+returns c = sym (search (put_next, put_of, groups, lengths, room) depth 30 fits 100000)

@@ -1,0 +1,15 @@
+use mathlib.Core.Bool.{false≢true}
+use native.Mathlib.Omega.{arith}
+use borrow.Author.Rules.{rules}
+use borrow.Author.Tests.{not-false, eqb-true}
+use Rattle.text.proofs.Puts.{put_counts}
+use Rattle.stream_text.specs.Text.{text_by}
+use Rattle.stream_model.proofs.Onward.{left, left_less}
+use Rattle.stream_cases.proofs.Laws.{Printed, printed_start, printed_row, printed_all}
+use Rattle.stream_cases.proofs.agrees.Given as goal
+
+abbrev pub invariant-loop-state : goal.invariant-loop-state
+invariant-loop-state l = Printed (text_by l.text) l.input l.expected l.at l.printed l.state
+
+abbrev pub decreases-loop-state : goal.decreases-loop-state
+decreases-loop-state l = left l.state

@@ -1,0 +1,11 @@
+use mathlib.Core.Logic.{⊎_elim}
+use Prim.Native.Nat.{◌-◌, ◌≤◌}
+use native.Mathlib.Omega.{arith}
+use borrow.Author.Rules.{rules}
+use Rattle.stream_cases.proofs.run.Given as goal
+
+abbrev pub invariant-loop-cases : goal.invariant-loop-cases
+invariant-loop-cases l = differ ≤ cases
+
+abbrev pub decreases-loop-cases : goal.decreases-loop-cases
+decreases-loop-cases l = 1000000 - cases

@@ -1,0 +1,18 @@
+-- `stream_cases::stands` meets its contract.
+use mathlib.Core.Path.{◌≡◌}
+use mathlib.Core.Bool.{false≢true}
+use mathlib.Core.List.{◌++◌}
+use Prim.Native.Nat.{◌+◌, ◌-◌, ◌≤◌, ◌<◌}
+use native.Mathlib.Omega.{arith}
+use lib.ListN.{length, take}
+use borrow.Author.Rules.{rules}
+use Rattle.stream_cases.proofs.Laws.{none_yet, one_more, stands_all}
+use Rattle.stream_cases.proofs.stands.Goals as goal
+
+pub loop-i-init : goal.loop-i-init
+loop-i-init c = (omega arith, omega arith, none_yet c.args.text.now c.args.expected.now c.args.at)
+
+pub loop-i-preserved : goal.loop-i-preserved
+loop-i-preserved c =
+    let h : c.loop-i.i < length c.args.text.now = omega arith in
+    (omega arith, c.loop-i.invariant.1, one_more _ _ _ _ h c.loop-i.invariant.1 c.if-expected-at-2.false c.loop-i.invariant.2)

@@ -1,0 +1,61 @@
+-- `stream_reading::block` meets its contract: each turn feeds at least a row.
+use mathlib.Core.Path.{◌≡◌, refl, sym}
+use Prim.Native.Nat.{◌+◌, ◌-◌, ◌*◌, ◌/◌, ◌%◌, ◌^◌, ◌≤◌, ◌<◌}
+use native.Mathlib.Omega.{arith}
+use native.Mathlib.Nat.{add-zero}
+use lib.ListN.{length}
+use borrow.Author.Rules.{rules}
+use Rattle.text.proofs.Puts.{put_counts}
+use Rattle.stream_model.specs.Sound.{Onward}
+use Rattle.stream_reading.proofs.Laws.{rows_left, onward_by, onward_all, onward_ended, kept_onward}
+use Rattle.stream_reading.proofs.block.Goals as goal
+use Rattle.stream_reading.proofs.block.Goals.{After-struct_known-1}
+
+-- the rows that were fed are rows of the block, which fits in memory
+within : (c : After-struct_known-1)
+    → let to = c.loop-state.from + 752 * c.feed_rows-fed.result.rows in
+    (to ≤ length c.args.bytes.now) × (to < 2 ^ 64)
+within c =
+    let r = rows_left c.args.bytes.now c.loop-state.from c.loop-state.invariant.1 in
+    (omega (arith, c.feed_rows-fed.ensures.within), omega (arith, c.feed_rows-fed.ensures.within))
+
+pub loop-state-init : goal.loop-state-init
+loop-state-init c =
+    (refl, omega arith, refl, record { sound = c.requires.sound; rows = λ _. sym (add-zero c.args.s.rows) })
+
+pub returns-then-bytes-from-lt-ROW_BYTES : goal.returns-then-bytes-from-lt-ROW_BYTES
+returns-then-bytes-from-lt-ROW_BYTES c =
+    let e : c.loop-state.from / 752 ≡ length c.args.bytes.now / 752 = omega arith in
+    onward_all _ _ e c.loop-state.invariant.3
+
+pub feed_rows-fed-requires : goal.feed_rows-fed-requires
+feed_rows-fed-requires c = c.loop-state.invariant.3.sound
+
+pub slice_bounds-print-end : goal.slice_bounds-print-end
+slice_bounds-print-end c = (put_counts (omega arith) c.feed_rows-fed.ensures.gives.put).0
+
+pub slice_bounds-print-end-in-loop-state : goal.slice_bounds-print-end-in-loop-state
+slice_bounds-print-end-in-loop-state c = (put_counts (omega arith) c.feed_rows-fed.ensures.gives.put).1
+
+pub print-state-requires : goal.print-state-requires
+print-state-requires c = c.feed_rows-fed.ensures.onward.sound
+
+pub overflow_mul-from : goal.overflow_mul-from
+overflow_mul-from c = omega (arith, (within c).1)
+
+pub overflow_add-from : goal.overflow_add-from
+overflow_add-from c = omega (arith, (within c).1)
+
+pub loop-state-smaller : goal.loop-state-smaller
+loop-state-smaller c =
+    let r = rows_left c.args.bytes.now c.loop-state.from c.loop-state.invariant.1 in
+    let some = c.feed_rows-fed.ensures.some c.loop-state-test.true (omega arith) (omega arith) in
+    omega (arith, (within c).0)
+
+pub loop-state-preserved : goal.loop-state-preserved
+loop-state-preserved c =
+    let o = onward_by c.loop-state.from _ c.loop-state.invariant.2 c.loop-state-test.true c.loop-state.invariant.3 c.feed_rows-fed.ensures.onward in
+    (search rules, (within c).0, omega arith, kept_onward c.print-state.ensures o)
+
+pub returns : goal.returns
+returns c = onward_ended _ _ c.loop-state-test.false c.loop-state.invariant.3

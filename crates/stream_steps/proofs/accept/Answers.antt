@@ -1,0 +1,21 @@
+-- `stream_steps::accept` meets its contract.
+use mathlib.Core.Path.{refl}
+use lib.Dec.{lit<}
+use borrow.Author.Rules.{rules}
+use borrow.Author.Tests.{eq-eqb, ne_eqb}
+use Rattle.text.proofs.Puts.{put-none}
+use Rattle.stream_model.specs.Model.{accept_of}
+use Rattle.stream_steps.proofs.accept.Goals as goal
+
+pub returns-then-s-eq0 : goal.returns-then-s-eq0
+unfolding accept_of
+returns-then-s-eq0 c = rw (eq-eqb _ _ c.if-s-eq0.true) (record { state_is = refl; put = put-none _ _ })
+
+pub pair_text-next-requires : goal.pair_text-next-requires
+pair_text-next-requires c =
+    (c.requires.room, (c.requires.sound, (c.requires.row, (lit< tt, search rules))))
+
+pub returns : goal.returns
+unfolding accept_of
+returns c =
+    rw (ne_eqb _ _ c.if-s-eq0.false) (record { state_is = refl; put = c.pair_text-next.ensures })
