@@ -22,7 +22,7 @@ returns-2 : tie.Need-returns-in-18
 returns-2 c = rw c.in-18.is (sym (fp_call_sc _ (search (rules, exprs, places, local-row))))
 
 returns-3 : tie.Need-returns-in_default
-returns-3 c = sym (fp_outside _ c.args.k (omega arith))
+returns-3 c = sym (fp_outside _ c.args.k (grind arith))
 
 pub fp_free_spec : {M : Type 1} → statement M
 fp_free_spec = tie.close (search (tie.spec, returns, returns-2, returns-3, places, local-row))

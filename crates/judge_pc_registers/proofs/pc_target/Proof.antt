@@ -1,4 +1,5 @@
 -- `judge_pc_registers::pc_target` meets its contract.
+use mathlib.Core.List.{[]}
 use mathlib.Core.Logic.{⊎_elim}
 use native.Mathlib.Omega.{arith}
 use Rattle.table.specs.Rows.{Row}
@@ -33,21 +34,21 @@ returns-2 c =
 returns-3 : tie.Need-returns-then-lv-eq1
 returns-3 c =
     record {
-      goes = λ n r. goes-taken _ _ c.in-3.is (on_true _ _ _ _ _ (search local-row) 30 c.if-lv-eq1.true) (search (rules, exprs, places, local-row));
+      goes = λ n r. goes-taken _ _ c.in-3.is (on_true [] c.args.lv.now n 0 0 (search local-row) 30 c.if-lv-eq1.true) (search (rules, exprs, places, local-row));
       below = search (places, local-row);
     }
 
 returns-4 : tie.Need-returns-else-lv-eq1
 returns-4 c =
     record {
-      goes = λ n r. goes_left _ _ c.in-3.is (on_false _ _ _ _ _ (search local-row) 30 c.if-lv-eq1.false) (search (rules, exprs, size_of, places));
+      goes = λ n r. goes_left _ _ c.in-3.is (on_false [] c.args.lv.now n 0 0 (search local-row) 30 c.if-lv-eq1.false) (search (rules, exprs, size_of, places));
       below = search places;
     }
 
 returns-5 : tie.Need-returns-in_default
 returns-5 c =
     record {
-      goes = λ n r. goes_outside _ c.args.k (omega arith) (search (rules, exprs, size_of, places));
+      goes = λ n r. goes_outside _ c.args.k (grind arith) (search (rules, exprs, size_of, places));
       below = search places;
     }
 
