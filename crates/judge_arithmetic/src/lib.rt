@@ -1,5 +1,6 @@
 // The rules of arithmetic: L of the rulebook.
 #![tactic(auto)]
+
 ghost use Rattle.std.specs.Prelude.{◌≡◌, false, []};
 ghost use Rattle.rulebook.specs.Rulebook.{rules_L};
 ghost use Rattle.judge_columns.specs.Group.{keeps_rules};
