@@ -18,11 +18,11 @@ local-row c = c.requires.rows.local
 next_row : (c : tie.Start) → Row c.args.nv.now
 next_row c = c.requires.rows.next
 
-length : (c : tie.Start) → ValueOf lv_ext_length c.args.lv.now c.args.nv.now c.args.ext-length
+length : (c : tie.Start) → ValueOf lv_ext_length c.args.lv.now c.args.nv.now c.args.ext_length
 unfolding lv_ext_length
 length c = shared_of c.requires.length _ tt 0 _ refl
 
-length-below : (c : tie.Start) → c.args.ext-length < p
+length-below : (c : tie.Start) → c.args.ext_length < p
 unfolding lv_ext_length
 length-below c = shared_below c.requires.length 0 tt
 

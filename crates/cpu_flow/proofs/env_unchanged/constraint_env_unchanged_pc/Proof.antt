@@ -17,7 +17,7 @@ local-row c = c.requires.rows.local
 next_row : (c : tie.Start) → Row c.args.nv.now
 next_row c = c.requires.rows.next
 
-clk : (c : tie.Start) → ValueOf clk_kept c.args.lv.now c.args.nv.now c.args.clk-kept
+clk : (c : tie.Start) → ValueOf clk_kept c.args.lv.now c.args.nv.now c.args.clk_kept
 clk c = shared_of c.requires.clk _ refl 0 _ refl
 
 returns : tie.Need-returns

@@ -16,7 +16,7 @@ masks : (c : tie.Start) → Masks c.args.masks.now
 masks c = c.requires.masks
 
 returns : tie.Need-returns
-returns c = (sym (opcode_parts _ ∙ search (exprs, helpers, part_length, row, tt)), search helpers_below)
+returns c = record { value = sym (opcode_parts _ ∙ search (exprs, helpers, part_length, row, tt)); canonical = search helpers_below; }
 
 pub cal_opcode_spec : {M : Type 1} → statement M
 cal_opcode_spec = tie.close (search (tie.spec, returns, places, loop_places, helpers_below, row, masks))
