@@ -13,11 +13,11 @@ use Rattle.refusals.proofs.Laws.{Clear, clear, clear_front, clear_back, behind, 
 use Rattle.table.specs.Rows.{Row, Rows, Masks}
 
 -- of a test r of the definition b, denied by `!`
-pub denied : {r b : Bool} → r ≡ b → not r ≡ true → not b ≡ true
-denied e t = ap not (sym e) ∙ t
+pub denied : {r b : Bool} → r ≡ b → r ≡ false → not b ≡ true
+denied e t = ap not (sym e ∙ t)
 
-pub kept : {r b : Bool} → r ≡ b → not r ≡ false → not b ≡ false
-kept e t = ap not (sym e) ∙ t
+pub kept : {r b : Bool} → r ≡ b → r ≡ true → not b ≡ false
+kept e t = ap not (sym e ∙ t)
 
 -- what is not turned back is as the core asks: a row, masks, and masks and a pair of rows together
 pub accepted-row : (row : List ℕ) → length row ≡ 94 → (row_contents row).holds ≡ false → Row row
