@@ -14,7 +14,7 @@ local-row c = c.requires
 
 returns : tie.Need-returns
 unfolding pc_next
-returns c = record { value = sym (search (exprs, wide_sums, instruction_size_of) depth 100 fits 100000); canonical = search reduced_below; }
+returns c = (sym (search (exprs, wide_sums, instruction_size_of) depth 100 fits 100000), search reduced_below)
 
 pub pc_next_spec : {M : Type 1} → statement M
 pc_next_spec = tie.close (search (tie.spec, returns, places, reduced_below, instruction_size-below, local-row))

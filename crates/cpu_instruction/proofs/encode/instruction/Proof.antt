@@ -15,7 +15,7 @@ row c = c.requires
 
 returns : tie.Need-returns
 unfolding instruction
-returns c = record { value = sym (search (exprs, helpers, wide_sums, tt) depth 100 fits 100000); canonical = search sum_below; }
+returns c = (sym (search (exprs, helpers, wide_sums, tt) depth 100 fits 100000), search sum_below)
 
 pub instruction_spec : {M : Type 1} → statement M
 instruction_spec = tie.close (search (tie.spec, returns, places, loop_places, helpers_below, reduced_below, row))

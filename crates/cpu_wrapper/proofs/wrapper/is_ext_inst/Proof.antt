@@ -12,7 +12,7 @@ local-row c = c.requires
 
 returns : tie.Need-returns
 unfolding lv_is_ext_inst
-returns c = record { value = sym (search exprs depth 100 fits 100000); canonical = search sum_below; }
+returns c = (sym (search exprs depth 100 fits 100000), search sum_below)
 
 pub is_ext_inst_spec : {M : Type 1} → statement M
 is_ext_inst_spec = tie.close (search (tie.spec, returns, places, local-row))

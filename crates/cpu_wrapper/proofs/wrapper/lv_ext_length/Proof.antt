@@ -13,7 +13,7 @@ local-row c = c.requires
 
 returns : tie.Need-returns
 unfolding lv_ext_length
-returns c = record { value = sym (search (exprs, wide_sums, places) depth 100 fits 100000); canonical = search reduced_below; }
+returns c = (sym (search (exprs, wide_sums, places) depth 100 fits 100000), search reduced_below)
 
 pub lv_ext_length_spec : {M : Type 1} → statement M
 lv_ext_length_spec = tie.close (search (tie.spec, returns, places, reduced_below, local-row))
