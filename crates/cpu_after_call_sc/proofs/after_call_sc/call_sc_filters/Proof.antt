@@ -15,7 +15,7 @@ local-row : (c : tie.Start) → Row c.args.lv.now
 local-row c = c.requires.0
 
 factor : (c : tie.Start) → ValuesOf row_factors c.args.lv.now [] c.args.factors.now
-factor c = shared_of c.requires.1 _ tt
+factor c = shared_of c.requires.1 [] tt
 
 factor-place : (c : tie.Start) → PlacesOf row_factors c.args.factors.now
 factor-place c = shared_place c.requires.1
