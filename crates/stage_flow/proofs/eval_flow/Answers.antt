@@ -21,11 +21,10 @@ room c = omega (arith, c.requires.room)
 
 pub constraint_env_unchanged_pc-pc-requires : goal.constraint_env_unchanged_pc-pc-requires
 unfolding values constraint_env_unchanged_clk
-constraint_env_unchanged_pc-pc-requires c = (
-  c.requires.rows,
-  one_shared
-      (ap (λ (l : List ℕ). get_or l 0 0) c.constraint_env_unchanged_clk-clk.ensures),
-)
+constraint_env_unchanged_pc-pc-requires c = record {
+  rows = c.requires.rows;
+  clk = one_shared (ap (λ (l : List ℕ). get_or l 0 0) c.constraint_env_unchanged_clk-clk.ensures);
+}
 
 pub returns : goal.returns
 unfolding flow

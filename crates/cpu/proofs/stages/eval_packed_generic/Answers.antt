@@ -13,8 +13,12 @@ room : (c : Start) → 0 ≤ length c.args.out.now
 room c = omega arith
 
 pub eval_opcodes-requires : goal.eval_opcodes-requires
-eval_opcodes-requires c =
-    (c.requires.rows, (c.requires.masks, (c.requires.z, omega (arith, c.requires.room, c.out-1.given, c.out-2-1.given, c.out-3-1.given))))
+eval_opcodes-requires c = record {
+  rows = c.requires.rows;
+  masks = c.requires.masks;
+  z = c.requires.z;
+  room = omega (arith, c.requires.room, c.out-1.given, c.out-2-1.given, c.out-3-1.given);
+}
 
 pub returns : goal.returns
 unfolding pair_values
