@@ -73,7 +73,7 @@ module _ {Γ : Cx} {u : Mo Γ} (m lv nv : List ℕ) (z f : ℕ) where
       nv ≡ (args_v k.lifetimes context-call.ps Γ.locals ar u).1.0.now →
       z ≡ (args_v k.lifetimes context-call.ps Γ.locals ar u).1.1.0 →
       f ≡ (args_v k.lifetimes context-call.ps Γ.locals ar u).1.1.1.0 →
-      write l 0 (values residues (cells m lv nv z f) context) ≡ k.last.1.1.1.1.0
+      write l 0 (values residues (cells m lv nv z f) context) ≡ k.new.1.1.1.1.0
   context_first k l p e0 e1 e2 e3 = sym (k.ensures ∙ rw (← p, ← e0, ← e1, ← e2, ← e3) (ap (write l 0) (context-same m lv nv z f)))
 
   pub instruction_next : {ar : ArgsT instruction-call.ps Γ.locals} (k : Called instruction-call.ps instruction-call.r instruction-reads.Learnt Γ ar u) (l : List ℕ) (a : List Entry) →
@@ -83,7 +83,7 @@ module _ {Γ : Cx} {u : Mo Γ} (m lv nv : List ℕ) (z f : ℕ) where
       nv ≡ (args_v k.lifetimes instruction-call.ps Γ.locals ar u).1.0.now →
       m ≡ (args_v k.lifetimes instruction-call.ps Γ.locals ar u).1.1.0.now →
       0 ≤ length l →
-      write l 0 (values residues (cells m lv nv z f) (a ++ instruction)) ≡ k.last.1.1.1.0
+      write l 0 (values residues (cells m lv nv z f) (a ++ instruction)) ≡ k.new.1.1.1.0
   instruction_next k l a p q e0 e1 e2 h = sym (k.ensures ∙ rw (← p, ← e0, ← e1, ← e2) (joined (cells m lv nv z f) l 0 a instruction 82 _ h (zero-add (length a) ∙ q) (instruction-same m lv nv z f)))
 
   pub flow_next : {ar : ArgsT flow-call.ps Γ.locals} (k : Called flow-call.ps flow-call.r flow-reads.Learnt Γ ar u) (l : List ℕ) (a : List Entry) →
@@ -93,7 +93,7 @@ module _ {Γ : Cx} {u : Mo Γ} (m lv nv : List ℕ) (z f : ℕ) where
       nv ≡ (args_v k.lifetimes flow-call.ps Γ.locals ar u).1.0.now →
       z ≡ (args_v k.lifetimes flow-call.ps Γ.locals ar u).1.1.0 →
       0 ≤ length l →
-      write l 0 (values residues (cells m lv nv z f) (a ++ flow)) ≡ k.last.1.1.1.0
+      write l 0 (values residues (cells m lv nv z f) (a ++ flow)) ≡ k.new.1.1.1.0
   flow_next k l a p q e0 e1 e2 h = sym (k.ensures ∙ rw (← p, ← e0, ← e1, ← e2) (joined (cells m lv nv z f) l 0 a flow 144 _ h (zero-add (length a) ∙ q) (flow-same m lv nv z f)))
 
   pub opcodes_next : {ar : ArgsT opcodes-call.ps Γ.locals} (k : Called opcodes-call.ps opcodes-call.r opcodes-reads.Learnt Γ ar u) (l : List ℕ) (a : List Entry) →
@@ -104,7 +104,7 @@ module _ {Γ : Cx} {u : Mo Γ} (m lv nv : List ℕ) (z f : ℕ) where
       m ≡ (args_v k.lifetimes opcodes-call.ps Γ.locals ar u).1.1.0.now →
       z ≡ (args_v k.lifetimes opcodes-call.ps Γ.locals ar u).1.1.1.0 →
       0 ≤ length l →
-      write l 0 (values residues (cells m lv nv z f) (a ++ opcodes)) ≡ k.last.1.1.1.1.0
+      write l 0 (values residues (cells m lv nv z f) (a ++ opcodes)) ≡ k.new.1.1.1.1.0
   opcodes_next k l a p q e0 e1 e2 e3 h = sym (k.ensures ∙ rw (← p, ← e0, ← e1, ← e2, ← e3) (joined (cells m lv nv z f) l 0 a opcodes 159 _ h (zero-add (length a) ∙ q) (opcodes-same m lv nv z f)))
 
 pub ruleset stages = (instruction_begins, flow_begins, opcodes_begins, context_first, instruction_next, flow_next, opcodes_next)

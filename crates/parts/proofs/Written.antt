@@ -41,7 +41,7 @@ module _ {Γ : Cx} {u : Mo Γ} {ar : ArgsT ps Γ.locals} where
       l ≡ (args_v k.lifetimes ps Γ.locals ar u).0.now →
       at ≡ (args_v k.lifetimes ps Γ.locals ar u).1.0 →
       vs ≡ (args_v k.lifetimes ps Γ.locals ar u).1.1.0.now →
-      write l at vs ≡ k.last.0
+      write l at vs ≡ k.new.0
   put_of k l at vs p q e = sym (k.ensures ∙ rw (← p, ← q, ← e))
 
   pub put_next : (k : Called ps r Learnt Γ ar u) (env : Cell → ℕ) (l : List ℕ) (at : ℕ) (a b : List Entry) →
@@ -49,5 +49,5 @@ module _ {Γ : Cx} {u : Mo Γ} {ar : ArgsT ps Γ.locals} where
       at + length a ≡ (args_v k.lifetimes ps Γ.locals ar u).1.0 →
       values residues env b ≡ (args_v k.lifetimes ps Γ.locals ar u).1.1.0.now →
       at ≤ length l →
-      write l at (values residues env (a ++ b)) ≡ k.last.0
+      write l at (values residues env (a ++ b)) ≡ k.new.0
   put_next k env l at a b p q e h = sym (k.ensures ∙ rw (← p, ← e) (joined env l at a b _ _ h q refl))

@@ -44,7 +44,7 @@ module _ {Γ : Cx} {u : Mo Γ} (m lv nv : List ℕ) (z f : ℕ) where
       z ≡ (args_v k.lifetimes txInit.ps Γ.locals ar u).1.1.0 →
       f ≡ (args_v k.lifetimes txInit.ps Γ.locals ar u).1.1.1.0 →
       at ≤ length l →
-      write l at (values residues (cells m lv nv z f) (a ++ constraint_tx_init)) ≡ k.last.1.1.1.1.0
+      write l at (values residues (cells m lv nv z f) (a ++ constraint_tx_init)) ≡ k.new.1.1.1.1.0
   tx_init_next k l at a p q e0 e1 e2 e3 h = sym (k.ensures ∙ rw (← p, ← e0, ← e1, ← e2, ← e3) (joined (cells m lv nv z f) l at a constraint_tx_init _ _ h q (tx_init_same m lv nv z f)))
 
   pub body_next : {ar : ArgsT body.ps Γ.locals} (k : Called body.ps body.r body-Reads.Learnt Γ ar u) (l : List ℕ) (at : ℕ) (a : List Entry) →
@@ -54,7 +54,7 @@ module _ {Γ : Cx} {u : Mo Γ} (m lv nv : List ℕ) (z f : ℕ) where
       nv ≡ (args_v k.lifetimes body.ps Γ.locals ar u).1.0.now →
       z ≡ (args_v k.lifetimes body.ps Γ.locals ar u).1.1.0 →
       at ≤ length l →
-      write l at (values residues (cells m lv nv z f) (a ++ eval_packed_generic_body)) ≡ k.last.1.1.1.0
+      write l at (values residues (cells m lv nv z f) (a ++ eval_packed_generic_body)) ≡ k.new.1.1.1.0
   body_next k l at a p q e0 e1 e2 h = sym (k.ensures ∙ rw (← p, ← e0, ← e1, ← e2) (joined (cells m lv nv z f) l at a eval_packed_generic_body _ _ h q (body_same m lv nv z f)))
 
   pub ext_lines_next : {ar : ArgsT extLines.ps Γ.locals} (k : Called extLines.ps extLines.r extLines-reads.Learnt Γ ar u) (l : List ℕ) (at : ℕ) (a : List Entry) →
@@ -63,7 +63,7 @@ module _ {Γ : Cx} {u : Mo Γ} (m lv nv : List ℕ) (z f : ℕ) where
       lv ≡ (args_v k.lifetimes extLines.ps Γ.locals ar u).0.now →
       nv ≡ (args_v k.lifetimes extLines.ps Γ.locals ar u).1.0.now →
       at ≤ length l →
-      write l at (values residues (cells m lv nv z f) (a ++ constraint_ext_lines)) ≡ k.last.1.1.0
+      write l at (values residues (cells m lv nv z f) (a ++ constraint_ext_lines)) ≡ k.new.1.1.0
   ext_lines_next k l at a p q e0 e1 h = sym (k.ensures ∙ rw (← p, ← e0, ← e1) (joined (cells m lv nv z f) l at a constraint_ext_lines _ _ h q (ext_lines_same m lv nv z f)))
 
 pub ruleset joins = (tx_init_next, body_next, ext_lines_next)

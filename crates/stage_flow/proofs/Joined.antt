@@ -31,5 +31,5 @@ module _ {Γ : Cx} {u : Mo Γ} (m lv nv : List ℕ) (z f : ℕ) where
       nv ≡ (args_v k.lifetimes regConsistency.ps Γ.locals ar u).1.0.now →
       z ≡ (args_v k.lifetimes regConsistency.ps Γ.locals ar u).1.1.0 →
       at ≤ length l →
-      write l at (values residues (cells m lv nv z f) (a ++ constraint_reg_consistency)) ≡ k.last.1.1.1.0
+      write l at (values residues (cells m lv nv z f) (a ++ constraint_reg_consistency)) ≡ k.new.1.1.1.0
   reg_consistency_next k l at a p q e0 e1 e2 h = sym (k.ensures ∙ rw (← p, ← e0, ← e1, ← e2) (joined (cells m lv nv z f) l at a constraint_reg_consistency _ _ h q (reg_consistency_same m lv nv z f)))

@@ -35,7 +35,7 @@ module _ {Γ : Cx} {u : Mo Γ} (m lv nv : List ℕ) (z f : ℕ) where
       at ≡ (args_v k.lifetimes opcodeSelector.ps Γ.locals ar u).1.1.1.0 →
       lv ≡ (args_v k.lifetimes opcodeSelector.ps Γ.locals ar u).0.now →
       m ≡ (args_v k.lifetimes opcodeSelector.ps Γ.locals ar u).1.0.now →
-      write l at (values residues (cells m lv nv z f) constraint_opcode_selector) ≡ k.last.1.1.0
+      write l at (values residues (cells m lv nv z f) constraint_opcode_selector) ≡ k.new.1.1.0
   opcode_selector_first k l at p q e0 e1 = sym (k.ensures ∙ rw (← p, ← q, ← e0, ← e1) (ap (write l at) (opcode_selector_same m lv nv z f)))
 
   pub operands_next : {ar : ArgsT operands.ps Γ.locals} (k : Called operands.ps operands.r operands-reads.Learnt Γ ar u) (l : List ℕ) (at : ℕ) (a : List Entry) →
@@ -44,7 +44,7 @@ module _ {Γ : Cx} {u : Mo Γ} (m lv nv : List ℕ) (z f : ℕ) where
       lv ≡ (args_v k.lifetimes operands.ps Γ.locals ar u).0.now →
       nv ≡ (args_v k.lifetimes operands.ps Γ.locals ar u).1.0.now →
       at ≤ length l →
-      write l at (values residues (cells m lv nv z f) (a ++ constraint_operands_mathches_registers)) ≡ k.last.1.1.0
+      write l at (values residues (cells m lv nv z f) (a ++ constraint_operands_mathches_registers)) ≡ k.new.1.1.0
   operands_next k l at a p q e0 e1 h = sym (k.ensures ∙ rw (← p, ← e0, ← e1) (joined (cells m lv nv z f) l at a constraint_operands_mathches_registers _ _ h q (operands_same m lv nv z f)))
 
 pub ruleset joins = (opcode_selector_first, operands_next)

@@ -44,7 +44,7 @@ module _ {Γ : Cx} {u : Mo Γ} (m lv nv : List ℕ) (z f : ℕ) where
       lv ≡ (args_v k.lifetimes tape.ps Γ.locals ar u).0.now →
       nv ≡ (args_v k.lifetimes tape.ps Γ.locals ar u).1.0.now →
       at ≤ length l →
-      write l at (values residues (cells m lv nv z f) (a ++ tape)) ≡ k.last.1.1.0
+      write l at (values residues (cells m lv nv z f) (a ++ tape)) ≡ k.new.1.1.0
   tape_next k l at a p q e0 e1 h = sym (k.ensures ∙ rw (← p, ← e0, ← e1) (joined (cells m lv nv z f) l at a tape _ _ h q (tape-same m lv nv z f)))
 
   pub call_sc_next : {ar : ArgsT callSc.ps Γ.locals} (k : Called callSc.ps callSc.r callSc-reads.Learnt Γ ar u) (l : List ℕ) (at : ℕ) (a : List Entry) →
@@ -54,7 +54,7 @@ module _ {Γ : Cx} {u : Mo Γ} (m lv nv : List ℕ) (z f : ℕ) where
       nv ≡ (args_v k.lifetimes callSc.ps Γ.locals ar u).1.0.now →
       z ≡ (args_v k.lifetimes callSc.ps Γ.locals ar u).1.1.0 →
       at ≤ length l →
-      write l at (values residues (cells m lv nv z f) (a ++ call_sc)) ≡ k.last.1.1.1.0
+      write l at (values residues (cells m lv nv z f) (a ++ call_sc)) ≡ k.new.1.1.1.0
   call_sc_next k l at a p q e0 e1 e2 h = sym (k.ensures ∙ rw (← p, ← e0, ← e1, ← e2) (joined (cells m lv nv z f) l at a call_sc _ _ h q (call_sc-same m lv nv z f)))
 
   pub up_to_regs_first : {ar : ArgsT upToRegs.ps Γ.locals} (k : Called upToRegs.ps upToRegs.r upToRegs-reads.Learnt Γ ar u) (l : List ℕ) (at : ℕ) →
@@ -63,7 +63,7 @@ module _ {Γ : Cx} {u : Mo Γ} (m lv nv : List ℕ) (z f : ℕ) where
       lv ≡ (args_v k.lifetimes upToRegs.ps Γ.locals ar u).0.now →
       nv ≡ (args_v k.lifetimes upToRegs.ps Γ.locals ar u).1.0.now →
       z ≡ (args_v k.lifetimes upToRegs.ps Γ.locals ar u).1.1.0 →
-      write l at (values residues (cells m lv nv z f) (call_sc_addresses ++ call_sc_operands ++ call_sc_cleared_head ++ call_sc_cleared_regs)) ≡ k.last.1.1.1.0
+      write l at (values residues (cells m lv nv z f) (call_sc_addresses ++ call_sc_operands ++ call_sc_cleared_head ++ call_sc_cleared_regs)) ≡ k.new.1.1.1.0
   up_to_regs_first k l at p q e0 e1 e2 = sym (k.ensures ∙ rw (← p, ← q, ← e0, ← e1, ← e2) (ap (write l at) (up_to_regs_same m lv nv z f)))
 
 pub ruleset joins = (tape_next, call_sc_next, up_to_regs_first)
