@@ -7,6 +7,9 @@ use Rattle.table.proofs.Called.{exprs, sum_below}
 use Rattle.table.proofs.Rows.{places}
 use Rattle.row_sums.proofs.Laws.{loop_places}
 use Rattle.cpu_instruction.proofs.Calls.{helpers, helpers_below}
+use Rattle.row_sums.proofs.Calls.{plus_shifted_of}
+use Rattle.sums.proofs.Called.{reduced_of}
+use Rattle.table.proofs.Called.{sum_of}
 use Rattle.cpu_instruction.proofs.encode.instruction.Statement.{statement}
 use Rattle.cpu_instruction.proofs.encode.instruction.Tie as tie
 
@@ -18,7 +21,7 @@ with_opcode c = search (places, row, c.reduced.ensures.1)
 
 returns : tie.Need-returns
 unfolding instruction
-returns c = (sym (search (exprs, helpers, wide_sums, tt) depth 100 fits 100000), search sum_below)
+returns c = (sym (sum_of _ c.add _ _ (reduced_of _ _ c.reduced.ensures.0 _ (plus_shifted_of _ _ c.plus_product-with_dst.ensures _ _ _ _ _ _ _ _ (search (exprs, helpers, wide_sums, tt) depth 100 fits 100000) (search helpers) (search helpers) tt)) (search exprs)), search sum_below)
 
 pub instruction_spec : {M : Type 1} → statement M
 instruction_spec = tie.close (search (tie.spec, with_opcode, returns, places, loop_places, helpers_below, row))

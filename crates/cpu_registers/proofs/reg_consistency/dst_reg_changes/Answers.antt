@@ -1,11 +1,13 @@
 -- `cpu_registers::reg_consistency::dst_reg_changes` meets its contract.
 use Prim.Native.Nat.{◌≤◌, ◌<◌, ◌-◌}
 use mathlib.Core.Path.{◌≡◌, refl, sym, ap₂, ◌∙◌}
+use mathlib.Core.List.{[]}
 use native.Mathlib.Omega.{arith}
 use lib.ListN.{length, take, get_or, length-set}
 use Rattle.algebra.specs.Expr.{◌⊖◌}
 use Rattle.residue.specs.Residues.{sub_p, mul_p}
 use Rattle.residue.proofs.Laws.{mul_p_word}
+use Rattle.table.specs.Columns.{COL-S-DST-START, COL-REGS-START}
 use Rattle.table.specs.Rows.{Row}
 use Rattle.table.specs.Entry.{𝟙}
 use Rattle.table.specs.CpuStark.{multi_reg_change, dst_reg_changes}
@@ -50,4 +52,4 @@ unfolding dst_reg_changes
 returns c =
     let e : c.loop-i.i ≡ 9 = omega arith in
     filled 9 _ _ c.loop-i.invariant.1 (rw e at c.loop-i.invariant.2)
-    ∙ sym (each-is _ 9 _ _ (λ i h. kept_of _ _ _ _ _ _ (𝟙 ⊖ multi_reg_change) _ _ i (omega arith) (search (exprs, multi_reg_change_of))))
+    ∙ sym (each-is _ 9 _ _ (λ i h. kept_of [] c.args.lv.now c.args.nv.now c.args.z_last 0 c.mul-one_reg_change.result (𝟙 ⊖ multi_reg_change) COL-S-DST-START COL-REGS-START i (omega arith) (search (exprs, multi_reg_change_of))))
