@@ -21,7 +21,7 @@ with_opcode c = search (places, row, c.reduced.ensures.1)
 
 returns : tie.Need-returns
 unfolding instruction
-returns c = (sym (sum_of _ c.add _ _ (reduced_of _ _ c.reduced.ensures.0 _ (plus_shifted_of _ _ c.plus_product-with_dst.ensures _ _ _ _ _ _ _ _ (search (exprs, helpers, wide_sums, tt) depth 100 fits 100000) (search helpers) (search helpers) tt)) (search exprs)), search sum_below)
+returns c = (sym (sum_of _ c.add _ _ (reduced_of _ _ c.reduced.ensures.0 _ (plus_shifted_of c.plus_product-with_op1.result c.plus_product-with_dst.result {d = c.from_digits-3.result} {q = c.pow2-4.result} c.plus_product-with_dst.ensures _ _ _ _ _ _ _ _ (search (exprs, helpers, wide_sums, tt) depth 100 fits 100000) (search helpers) (search helpers) tt)) (search exprs)), search sum_below)
 
 pub instruction_spec : {M : Type 1} → statement M
 instruction_spec = tie.close (search (tie.spec, with_opcode, returns, places, loop_places, helpers_below, row))
