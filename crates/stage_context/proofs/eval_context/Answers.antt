@@ -49,4 +49,4 @@ put-requires-2 c =
 
 pub returns : goal.returns
 unfolding context
-returns c = sym (put_next c.put-2 _ _ 0 (constraint_wrapper_cols ++ constraint_tx_init ++ eval_packed_generic_body ++ constraint_ext_lines) constraint_env_idx (search (put_next, put_of, joins, constraint_wrapper_cols_of, lengths, room) depth 30 fits 100000) (search lengths) (search constraint_env_idx_of) (search room))
+returns c = sym (put_next c.put-2.ensures _ _ 0 (constraint_wrapper_cols ++ constraint_tx_init ++ eval_packed_generic_body ++ constraint_ext_lines) constraint_env_idx (search (put_next, put_of, joins, constraint_wrapper_cols_of, lengths, room) depth 30 fits 100000) (search lengths) (search constraint_env_idx_of) (search room))

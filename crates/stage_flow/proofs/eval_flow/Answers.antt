@@ -12,7 +12,7 @@ use Rattle.table.proofs.Shared.{one_shared}
 use Rattle.parts.proofs.Written.{put_of, put_next}
 use Rattle.cpu_flow.proofs.Groups.{groups}
 use Rattle.stage_flow.proofs.Lengths.{lengths}
-use Rattle.stage_flow.proofs.Joined.{reg_consistency_next}
+use Rattle.stage_flow.proofs.Joined.{reg_consistency_same}
 use Rattle.stage_flow.proofs.eval_flow.Goals as goal
 use Rattle.stage_flow.proofs.eval_flow.Goals.{Start}
 
@@ -28,4 +28,4 @@ constraint_env_unchanged_pc-pc-requires c = record {
 
 pub returns : goal.returns
 unfolding flow
-returns c = sym (search (put_next, put_of, reg_consistency_next, groups, lengths, room) depth 30 fits 100000)
+returns c = sym (search (put_next, put_of, reg_consistency_same, groups, lengths, room) depth 30 fits 100000)

@@ -5,6 +5,7 @@ use native.Mathlib.Omega.{arith}
 use lib.ListN.{length}
 use borrow.Author.Rules.{rules}
 use Rattle.table.specs.Table.{pair_values}
+use Rattle.parts.proofs.Written.{put_of, put_next}
 use Rattle.cpu.proofs.Whole.{table_is, stages}
 use Rattle.cpu.proofs.stages.eval_packed_generic.Goals as goal
 use Rattle.cpu.proofs.stages.eval_packed_generic.Goals.{Start}
@@ -22,4 +23,4 @@ eval_opcodes-requires c = record {
 
 pub returns : goal.returns
 unfolding pair_values
-returns c = rw table_is (sym (search (stages, room) depth 30 fits 100000))
+returns c = rw table_is (sym (search (put_next, put_of, stages, room) depth 30 fits 100000))
