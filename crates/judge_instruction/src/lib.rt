@@ -1,5 +1,6 @@
 // The rules of the instruction: F to H of the rulebook.
 #![tactic(auto)]
+
 ghost use Rattle.std.specs.Prelude.{◌≡◌, false, [], ◌<◌};
 ghost use Rattle.algebra.specs.Prime.{p};
 ghost use Rattle.algebra.specs.Expr.{eval};

@@ -1,4 +1,5 @@
 // The kinds of an instruction, and their ext lines.
 #![tactic(auto)]
+
 pub mod kinds;
 pub mod selected;

@@ -4,10 +4,10 @@ use mathlib.Core.List.{List, map, map-map}
 use Prim.Native.Nat.{ℕ}
 use lib.ListN.{length, take}
 use Rattle.algebra.specs.Ring.{Ops}
-use Rattle.algebra.specs.Expr.{Expr, eval}
+use Rattle.algebra.specs.Expr.{eval}
 use Rattle.residue.specs.Residues.{residues}
 use Rattle.table.specs.Cells.{Cell, cells}
-use Rattle.table.specs.Entry.{Entry, weighted_by, values, plus_all, each}
+use Rattle.table.specs.Entry.{weighted_by, values, plus_all, each}
 use Rattle.table.specs.Table.{table, pair_values}
 use Rattle.table.specs.CpuStark.{
   lv_is_ext_inst,

@@ -1,5 +1,5 @@
 -- What is meant by a straight-line program being a list of constraints.
-use Rattle.std.specs.Prelude.{◌≡◌, List, [], ◌∷◌, ◌++◌, map, ℕ, T, length, take}
+use Rattle.std.specs.Prelude.{◌≡◌, List, ◌∷◌, ◌++◌, map, ℕ, T, length, take}
 use Rattle.algebra.specs.Lists.{range}
 use Rattle.algebra.specs.Expr.{Expr, var, con, ◌⊕◌, ◌⊖◌, ◌⊗◌}
 use Rattle.table.specs.Columns.{NUM-CPU-COLS}

@@ -1,11 +1,6 @@
 -- `judge_columns::chosen` meets its contract.
-use Prim.Native.Nat.{◌+◌, ◌≤◌, ◌-◌}
 use mathlib.Core.Path.{◌≡◌}
-use mathlib.Core.Bool.{not, ◌||◌}
 use native.Mathlib.Omega.{arith}
-use lib.ListN.{get_or}
-use lib.Dec.{eqb}
-use Rattle.judge_columns.specs.Group.{all_up_to}
 use Rattle.judge_columns.proofs.Counts.{all_up_to-none, all_up_to-step}
 use Rattle.judge_columns.proofs.chosen.Goals as goal
 

@@ -1,11 +1,9 @@
 use Prim.Native.Nat.{◌+◌, ◌≤◌, ◌-◌}
 use mathlib.Core.Path.{◌≡◌}
 use mathlib.Core.Bool.{◌||◌}
-use native.Mathlib.Omega.{arith}
 use lib.ListN.{get_or}
 use lib.Dec.{eqb}
 use Rattle.judge_columns.specs.Group.{all_up_to}
-use Rattle.judge_columns.proofs.Counts.{all_up_to-none, all_up_to-step}
 use Rattle.judge_columns.proofs.kept_unless_dst.Given as goal
 
 abbrev pub invariant-loop-i : goal.invariant-loop-i

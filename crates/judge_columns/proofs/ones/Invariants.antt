@@ -1,10 +1,7 @@
-use Prim.Native.Nat.{◌+◌, ◌≤◌, ◌<◌, ◌-◌}
+use Prim.Native.Nat.{◌+◌, ◌≤◌, ◌-◌}
 use mathlib.Core.Path.{◌≡◌}
-use mathlib.Core.Logic.{⊎_elim}
-use native.Mathlib.Omega.{arith}
 use lib.ListN.{get_or}
 use Rattle.rulebook.specs.Kind.{ones}
-use Rattle.judge_columns.proofs.Counts.{ones_none, ones-one, ones_other, ones_all}
 use Rattle.judge_columns.proofs.ones.Given as goal
 
 abbrev pub invariant-loop-i : goal.invariant-loop-i

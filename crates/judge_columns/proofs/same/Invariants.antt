@@ -1,10 +1,8 @@
 use Prim.Native.Nat.{◌+◌, ◌≤◌, ◌-◌}
 use mathlib.Core.Path.{◌≡◌}
-use native.Mathlib.Omega.{arith}
 use lib.ListN.{get_or}
 use lib.Dec.{eqb}
 use Rattle.judge_columns.specs.Group.{all_up_to}
-use Rattle.judge_columns.proofs.Counts.{all_up_to-none, all_up_to-step}
 use Rattle.judge_columns.proofs.same.Given as goal
 
 abbrev pub invariant-loop-t : goal.invariant-loop-t

@@ -1,6 +1,6 @@
 -- `judge_instruction::keeps_opcode_selector` meets its contract.
 use mathlib.Core.Path.{sym, ◌∙◌}
-use Rattle.table.specs.Rows.{Row, Masks}
+use Rattle.table.specs.Rows.{Row}
 use Rattle.table.proofs.Called.{exprs}
 use Rattle.table.proofs.Rows.{places}
 use Rattle.rulebook.specs.Rulebook.{rules_F}

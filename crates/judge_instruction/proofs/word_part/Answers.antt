@@ -1,13 +1,7 @@
 -- `judge_instruction::word_part` meets its contract.
-use Prim.Native.Nat.{◌+◌, ◌≤◌, ◌<◌, ◌-◌, ◌^◌}
+use Prim.Native.Nat.{◌+◌, ◌<◌}
 use mathlib.Core.Path.{◌≡◌}
-use mathlib.Core.List.{[]}
 use native.Mathlib.Omega.{arith}
-use Rattle.algebra.specs.Prime.{p}
-use Rattle.algebra.specs.Expr.{con, ◌⊗◌, eval}
-use Rattle.residue.specs.Residues.{residues}
-use Rattle.table.specs.Cells.{cells, lv}
-use Rattle.table.specs.Entry.{sum}
 use Rattle.judge_instruction.proofs.Parts.{word_none, word_step}
 use Rattle.judge_instruction.proofs.word_part.Goals as goal
 
@@ -22,4 +16,4 @@ loop-i-preserved c =
 pub returns : goal.returns
 returns c =
     let e : c.loop-i.i ≡ 10 = omega arith in
-    record { value = rw e at c.loop-i.invariant.2; canonical = c.loop-i.invariant.1; }
+    record { value = rw e at c.loop-i.invariant.2; canonical = c.loop-i.invariant.1 }

@@ -1,13 +1,11 @@
 use Prim.Native.Nat.{◌+◌, ◌≤◌, ◌<◌, ◌-◌, ◌^◌}
 use mathlib.Core.Path.{◌≡◌}
 use mathlib.Core.List.{[]}
-use native.Mathlib.Omega.{arith}
 use Rattle.algebra.specs.Prime.{p}
 use Rattle.algebra.specs.Expr.{con, ◌⊗◌, eval}
 use Rattle.residue.specs.Residues.{residues}
 use Rattle.table.specs.Cells.{cells, lv}
 use Rattle.table.specs.Entry.{sum}
-use Rattle.judge_instruction.proofs.Parts.{word_none, word_step}
 use Rattle.judge_instruction.proofs.word_part.Given as goal
 
 abbrev pub invariant-loop-i : goal.invariant-loop-i

@@ -1,9 +1,8 @@
 -- `judge_kinds::selected::kind` meets its contract.
-use Prim.Native.Nat.{◌+◌, ◌≤◌, ◌<◌, ◌-◌}
+use Prim.Native.Nat.{◌<◌}
 use mathlib.Core.Path.{◌≡◌, sym}
 use native.Mathlib.Omega.{arith}
-use lib.ListN.{get_or}
-use Rattle.rulebook.specs.Kind.{first_one, kind_of}
+use Rattle.rulebook.specs.Kind.{kind_of}
 use Rattle.judge_columns.proofs.Counts.{first_one-none, first_one_here, first_one_later, first_one_all}
 use Rattle.judge_kinds.proofs.selected.kind.Goals as goal
 

@@ -1,9 +1,7 @@
-use Prim.Native.Nat.{◌+◌, ◌≤◌, ◌<◌, ◌-◌}
-use mathlib.Core.Path.{◌≡◌, sym}
-use native.Mathlib.Omega.{arith}
+use Prim.Native.Nat.{◌+◌, ◌≤◌, ◌-◌}
+use mathlib.Core.Path.{◌≡◌}
 use lib.ListN.{get_or}
-use Rattle.rulebook.specs.Kind.{first_one, kind_of}
-use Rattle.judge_columns.proofs.Counts.{first_one-none, first_one_here, first_one_later, first_one_all}
+use Rattle.rulebook.specs.Kind.{first_one}
 use Rattle.judge_kinds.proofs.selected.kind.Given as goal
 
 abbrev pub invariant-loop-i : goal.invariant-loop-i
