@@ -1,4 +1,5 @@
 // The rules of arithmetic: L of the rulebook.
+#![tactic(auto)]
 ghost use Rattle.std.specs.Prelude.{◌≡◌, false, []};
 ghost use Rattle.rulebook.specs.Rulebook.{rules_L};
 ghost use Rattle.judge_columns.specs.Group.{keeps_rules};

@@ -1,4 +1,5 @@
 // The rules of CALL_SC and END: N of the rulebook.
+#![tactic(auto)]
 ghost use Rattle.std.specs.Prelude.{◌≡◌, false, [], take, drop};
 ghost use Rattle.table.specs.Rows.{Rows};
 ghost use Rattle.rulebook.specs.Rulebook.{rules_N};

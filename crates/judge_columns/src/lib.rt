@@ -1,4 +1,5 @@
 // Loops over runs of columns.
+#![tactic(auto)]
 ghost use Rattle.std.specs.Prelude.{◌≡◌, not, ◌||◌, [], ◌+◌, ◌≤◌, length, get_or, eqb};
 ghost use Rattle.rulebook.specs.Kind.{ones as ones_of};
 ghost use Rattle.table.specs.Columns.{REGISTER-NUM, COL-REGS-START, COL-S-DST-START};

@@ -1,4 +1,5 @@
 // The rules of ext lines and of the environment's number: D and E of the rulebook.
+#![tactic(auto)]
 ghost use Rattle.std.specs.Prelude.{◌≡◌, false, []};
 ghost use Rattle.table.specs.Rows.{Rows};
 ghost use Rattle.rulebook.specs.Rulebook.{rules_D, rules_E};

@@ -1,4 +1,5 @@
 // The rules of what flows from a row to the next: I to K of the rulebook.
+#![tactic(auto)]
 ghost use Rattle.std.specs.Prelude.{◌≡◌, false, []};
 ghost use Rattle.table.specs.Rows.{Rows};
 ghost use Rattle.rulebook.specs.Rulebook.{rules_I, rules_J, rules_K};

@@ -1,4 +1,5 @@
 // The masks of an instruction kind.
+#![tactic(auto)]
 ghost use Rattle.std.specs.Prelude.{◌≡◌, []};
 ghost use Rattle.table.specs.Cells.{cells};
 ghost use Rattle.rulebook.specs.Rule.{holds};

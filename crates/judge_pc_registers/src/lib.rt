@@ -1,4 +1,5 @@
 // Where the program counter goes and which registers are free, by the instruction kind.
+#![tactic(auto)]
 ghost use Rattle.std.specs.Prelude.{◌≡◌, [], ◌<◌};
 ghost use Rattle.algebra.specs.Prime.{p};
 ghost use Rattle.algebra.specs.Expr.{eval};

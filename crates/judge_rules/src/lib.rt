@@ -1,4 +1,5 @@
 // The rules of every group, A to N of the rulebook.
+#![tactic(auto)]
 ghost use Rattle.std.specs.Prelude.{◌≡◌};
 ghost use Rattle.rulebook.specs.Plain.{pair_keeps};
 ghost use Rattle.judge_rules.specs.Pair.{Pair};

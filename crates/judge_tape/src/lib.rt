@@ -1,4 +1,5 @@
 // The rules of the tape: M of the rulebook.
+#![tactic(auto)]
 ghost use Rattle.std.specs.Prelude.{◌≡◌, false, [], take, drop};
 ghost use Rattle.table.specs.Rows.{Rows};
 ghost use Rattle.rulebook.specs.Rulebook.{rules_M};

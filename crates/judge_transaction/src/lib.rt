@@ -1,4 +1,5 @@
 // The rules of a transaction: A to C of the rulebook.
+#![tactic(auto)]
 ghost use Rattle.std.specs.Prelude.{◌≡◌, false, []};
 ghost use Rattle.table.specs.Rows.{Rows};
 ghost use Rattle.rulebook.specs.Rulebook.{rules_A, rules_B, rules_C};

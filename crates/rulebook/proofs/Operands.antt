@@ -25,7 +25,7 @@ use Rattle.rulebook.proofs.Open.{open_table}
 use Rattle.rulebook.proofs.Tests.{bool_ext, or_cases, is_zero, is_zero_eq, is_zero_mul}
 use Rattle.rulebook.proofs.Poly.{Means, unknown, unknown_means}
 use Rattle.rulebook.proofs.Values.{env}
-use Rattle.rulebook.proofs.Split.{Fits, hot, chosen, put-number}
+use Rattle.rulebook.proofs.Split.{Fits, hot, put-number}
 use Rattle.rulebook.proofs.Sentences.{zero_entries, entry_at, rule_at, rule_seen, group_is}
 use Rattle.rulebook.proofs.Plans
 use Rattle.rulebook.proofs.Plans.{lone}

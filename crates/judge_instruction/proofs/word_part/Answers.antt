@@ -22,4 +22,4 @@ loop-i-preserved c =
 pub returns : goal.returns
 returns c =
     let e : c.loop-i.i ≡ 10 = omega arith in
-    (rw e at c.loop-i.invariant.2, c.loop-i.invariant.1)
+    record { value = rw e at c.loop-i.invariant.2; canonical = c.loop-i.invariant.1; }

@@ -43,10 +43,10 @@ pub bounds-masks-7 : goal.bounds-masks-7
 bounds-masks-7 c = search (places, masks)
 
 pub returns-in-0 : goal.returns-in-0
-returns-in-0 c = rw c.in-0.keys1 (sym (search (rules, choices, exprs, places, local-row, masks) depth 100 fits 100000))
+returns-in-0 c = rw c.in-0.is (sym (search (rules, choices, exprs, places, local-row, masks) depth 100 fits 100000))
 
 pub returns-in-10 : goal.returns-in-10
-returns-in-10 c = rw c.in-10.keys2 (sym (search (rules, choices, exprs, places, local-row, masks) depth 100 fits 100000))
+returns-in-10 c = rw c.in-10.is (sym (search (rules, choices, exprs, places, local-row, masks) depth 100 fits 100000))
 
 pub returns-in-1-to-9 : goal.returns-in-1-to-9
 returns-in-1-to-9 c =

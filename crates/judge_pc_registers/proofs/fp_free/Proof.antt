@@ -1,6 +1,7 @@
 -- `judge_pc_registers::fp_free` meets its contract.
 use mathlib.Core.Path.{sym}
-use mathlib.Core.Logic.{inl, inr, ⊎_elim}
+use mathlib.Core.Logic.{⊎_elim}
+use native.Mathlib.Omega.{arith}
 use Rattle.table.specs.Rows.{Row}
 use Rattle.table.proofs.Called.{exprs}
 use Rattle.table.proofs.Rows.{places}
@@ -15,13 +16,13 @@ local-row c = c.requires
 
 returns : tie.Need-returns-in-5
 unfolding holds
-returns c = ⊎_elim (λ e. rw e) (λ e. rw e) c.in-5.keys1
+returns c = ⊎_elim (λ e. rw e) (λ e. rw e) c.in-5.is
 
 returns-2 : tie.Need-returns-in-18
-returns-2 c = rw c.in-18.keys2 (sym (fp_call_sc _ (search (rules, exprs, places, local-row))))
+returns-2 c = rw c.in-18.is (sym (fp_call_sc _ (search (rules, exprs, places, local-row))))
 
 returns-3 : tie.Need-returns-in_default
-returns-3 c = sym (fp_outside _ _ ((λ e. c.in_default.rest.0.1 (inl e)), ((λ e. c.in_default.rest.0.1 (inr e)), (c.in_default.rest.1, tt))))
+returns-3 c = sym (fp_outside _ c.args.k (grind arith))
 
 pub fp_free_spec : {M : Type 1} → statement M
 fp_free_spec = tie.close (search (tie.spec, returns, returns-2, returns-3, places, local-row))

@@ -1,13 +1,10 @@
 -- `judge_pc_registers::instruction_size` meets its contract.
 use mathlib.Core.Path.{sym}
-use mathlib.Core.Logic.{⊎_elim}
-use mathlib.Core.List.{[], ◌∷◌}
 use native.Mathlib.Omega.{arith}
 use lib.Dec.{lit<}
 use Rattle.table.specs.Rows.{Row}
 use Rattle.table.proofs.Called.{exprs}
 use Rattle.table.proofs.Rows.{places}
-use Rattle.judge_kinds.proofs.Cases.{Outside}
 use Rattle.judge_pc_registers.proofs.Cases.{size_two, size_outside}
 use Rattle.judge_pc_registers.proofs.instruction_size.Statement.{statement}
 use Rattle.judge_pc_registers.proofs.instruction_size.Tie as tie
@@ -19,10 +16,7 @@ returns : tie.Need-returns-in-6
 returns c = (sym (size_two _ c.args.k (omega arith) (omega arith)), lit< tt)
 
 returns-2 : tie.Need-returns-in_default
-returns-2 c =
-    let o : Outside c.args.k (6 ∷ 7 ∷ []) =
-    ⊎_elim (λ w. omega arith) (λ w. omega arith) c.in_default.branch in
-    (sym (size_outside _ _ o (search exprs)), search places)
+returns-2 c = (sym (size_outside _ c.args.k (omega arith) (search exprs)), search places)
 
 pub instruction_size_spec : {M : Type 1} → statement M
 instruction_size_spec = tie.close (search (tie.spec, returns, returns-2, places, local-row))

@@ -1,11 +1,11 @@
 -- `judge_pc_registers::pc_target` meets its contract.
-use mathlib.Core.List.{[], ◌∷◌}
-use mathlib.Core.Logic.{inl, inr, ⊎_elim}
+use mathlib.Core.List.{[]}
+use mathlib.Core.Logic.{⊎_elim}
+use native.Mathlib.Omega.{arith}
 use Rattle.table.specs.Rows.{Row}
 use Rattle.table.proofs.Called.{exprs}
 use Rattle.table.proofs.Rows.{places}
 use Rattle.judge_columns.proofs.Rules.{rules}
-use Rattle.judge_kinds.proofs.Cases.{Outside}
 use Rattle.judge_pc_registers.proofs.Cases.{on_true, on_false, goes-taken, goes_left, goes_outside}
 use Rattle.judge_pc_registers.proofs.Picked.{size_of, size_below}
 use Rattle.judge_pc_registers.proofs.pc_target.Statement.{statement}
@@ -20,40 +20,35 @@ returns c =
       goes = λ n r. ⊎_elim
           (λ e. rw e (search (rules, exprs, places, local-row)))
           (λ e. rw e (search (rules, exprs, places, local-row)))
-          c.in-2.keys1;
+          c.in-2.is;
       below = search (places, local-row);
     }
 
 returns-2 : tie.Need-returns-in-5
 returns-2 c =
     record {
-      goes = λ n r. rw c.in-5.keys2 (search (rules, exprs, places, local-row));
+      goes = λ n r. rw c.in-5.is (search (rules, exprs, places, local-row));
       below = search (places, local-row);
     }
 
 returns-3 : tie.Need-returns-then-lv-eq1
 returns-3 c =
     record {
-      goes = λ n r. goes-taken _ _ c.in-3.keys3 (on_true _ _ _ _ _ (search local-row) 30 c.if-lv-eq1.taken) (search (rules, exprs, places, local-row));
+      goes = λ n r. goes-taken _ _ c.in-3.is (on_true [] c.args.lv.now n 0 0 (search local-row) 30 c.if-lv-eq1.true) (search (rules, exprs, places, local-row));
       below = search (places, local-row);
     }
 
 returns-4 : tie.Need-returns-else-lv-eq1
 returns-4 c =
     record {
-      goes = λ n r. goes_left _ _ c.in-3.keys3 (on_false _ _ _ _ _ (search local-row) 30 c.if-lv-eq1.left) (search (rules, exprs, size_of, places));
+      goes = λ n r. goes_left _ _ c.in-3.is (on_false [] c.args.lv.now n 0 0 (search local-row) 30 c.if-lv-eq1.false) (search (rules, exprs, size_of, places));
       below = search places;
     }
-
-outside : (c : tie.In_default) → Outside c.args.k (2 ∷ 4 ∷ 5 ∷ 3 ∷ [])
-outside c =
-    let r = c.in_default.rest in
-    ((λ e. r.0.0.1 (inl e)), ((λ e. r.0.0.1 (inr e)), (r.0.1, (r.1, tt))))
 
 returns-5 : tie.Need-returns-in_default
 returns-5 c =
     record {
-      goes = λ n r. goes_outside _ c.args.k (outside c) (search (rules, exprs, size_of, places));
+      goes = λ n r. goes_outside _ c.args.k (grind arith) (search (rules, exprs, size_of, places));
       below = search places;
     }
 

@@ -13,10 +13,10 @@ local-row : (c : tie.Start) → Row c.args.lv.now
 local-row c = c.requires
 
 returns : tie.Need-returns-in-18
-returns c = rw c.in-18.keys1 (sym (registers-call_sc _ (search (rules, exprs, places, local-row))))
+returns c = rw c.in-18.is (sym (registers-call_sc _ (search (rules, exprs, places, local-row))))
 
 returns-2 : tie.Need-returns-in-8
-returns-2 c = rw c.in-8.keys2 (sym (registers-end _ (search (rules, exprs, places, local-row))))
+returns-2 c = rw c.in-8.is (sym (registers-end _ (search (rules, exprs, places, local-row))))
 
 returns-3 : tie.Need-returns-in-14
 returns-3 c = sym (registers_true _ c.args.k (omega arith) (omega arith))

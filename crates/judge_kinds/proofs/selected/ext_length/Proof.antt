@@ -13,13 +13,13 @@ local-row : (c : tie.Start) → Row c.args.lv.now
 local-row c = c.requires
 
 returns : tie.Need-returns-in-16
-returns c = (rw c.in-16.keys2 (sym (search exprs)), search places)
+returns c = (rw c.in-16.is (sym (search exprs)), search places)
 
 returns-2 : tie.Need-returns-in-17
-returns-2 c = (rw c.in-17.keys3 (sym (search exprs)), search (places, local-row))
+returns-2 c = (rw c.in-17.is (sym (search exprs)), search (places, local-row))
 
 returns-3 : tie.Need-returns-in-8
-returns-3 c = (rw c.in-8.keys4 (sym (search exprs)), search places)
+returns-3 c = (rw c.in-8.is (sym (search exprs)), search places)
 
 returns-4 : tie.Need-returns-in_default
 returns-4 c = (sym (length_outside _ c.args.k (omega arith)), lit< tt)
@@ -28,7 +28,7 @@ returns-5 : tie.Need-returns-in_default-2
 returns-5 c = (sym (length_outside _ c.args.k (omega arith)), lit< tt)
 
 returns-6 : tie.Need-returns-in-14
-returns-6 c = (rw c.in-14.keys1 (sym (search exprs)), lit< tt)
+returns-6 c = (rw c.in-14.is (sym (search exprs)), lit< tt)
 
 returns-7 : tie.Need-returns-in-14-2
 returns-7 c = (sym (length-one _ c.args.k (omega arith) (omega arith)), lit< tt)

@@ -12,7 +12,7 @@ pub returns-in_default-2 : goal.returns-in_default-2
 returns-in_default-2 c = sym (member_outside c.args.k ext_kinds (omega arith))
 
 pub returns-in-14 : goal.returns-in-14
-returns-in-14 c = rw c.in-14.keys1
+returns-in-14 c = rw c.in-14.is
 
 pub returns-in-14-2 : goal.returns-in-14-2
 returns-in-14-2 c = sym (ext-kind c.args.k (omega arith) (omega arith))
