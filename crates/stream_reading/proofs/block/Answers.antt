@@ -29,7 +29,7 @@ returns-then-bytes-from-lt-ROW_BYTES c =
     onward_all _ _ e c.loop-state.invariant.3
 
 pub feed_rows-fed-requires : goal.feed_rows-fed-requires
-feed_rows-fed-requires c = c.loop-state.invariant.3.sound
+feed_rows-fed-requires c = record { sound = c.loop-state.invariant.3.sound }
 
 pub slice_bounds-print-end : goal.slice_bounds-print-end
 slice_bounds-print-end c = (put_counts (omega arith) c.feed_rows-fed.ensures.gives.put).0

@@ -17,17 +17,17 @@ returns-then-got-eq0 c =
 
 pub overflow_add-n : goal.overflow_add-n
 overflow_add-n c =
-    let f = fits_bytes _ _ _ c.got-1.given.1 c.read_Some.ensures in
+    let f = c.in-Bytes.ensures in
     omega (arith, f.0, c.bytes-1.given.0, c.read_some-arg-1.given.2)
 
 pub loop-n-smaller : goal.loop-n-smaller
 loop-n-smaller c =
-    let f = fits_bytes _ _ _ c.got-1.given.1 c.read_Some.ensures in
+    let f = c.in-Bytes.ensures in
     omega (arith, f.0, c.bytes-1.given.0, c.bytes-1.given.1, c.read_some-arg-1.given.2)
 
 pub loop-n-preserved : goal.loop-n-preserved
 loop-n-preserved c =
-    let f = fits_bytes _ _ _ c.got-1.given.1 c.read_Some.ensures in
+    let f = c.in-Bytes.ensures in
     (omega (arith, f.0, c.bytes-1.given.0, c.bytes-1.given.1, c.read_some-arg-1.given.2), omega (arith, c.bytes-1.given.1))
 
 pub returns : goal.returns
