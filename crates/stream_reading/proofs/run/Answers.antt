@@ -1,6 +1,5 @@
 -- `stream_reading::run` meets its contract.
 use borrow.Author.Rules.{rules}
-use Rattle.stream_reading.proofs.Laws.{fits_bytes}
 use Rattle.stream_reading.proofs.run.Goals as goal
 
 pub slice_bounds-masks-end : goal.slice_bounds-masks-end
