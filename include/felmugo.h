@@ -1,6 +1,6 @@
 /* The constraint values of pairs of CPU rows, their signed forms, folds, verdicts and reports.
  *
- * The functions are in target/staticlib/libffi.a, which `rt staticlib ffi` makes.
+ * The functions are in target/staticlib/libffi.a, which `tools/build ffi` makes.
  *
  * p is FELMUGO_P, 2^64 - 2^32 + 1. A row is 94 values, a list of masks 25, and the values of a pair
  * are 226, all below p. A pointer is followed by its length, counted in values; one whose length is

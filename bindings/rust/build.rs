@@ -12,14 +12,14 @@ fn main() {
         link(&library);
     } else {
         println!(
-            "cargo::error={} is not there: run `rt staticlib ffi` in the repository's root, \
+            "cargo::error={} is not there: run `tools/build ffi` in the repository's root, \
              or name the library's file by FELMUGO_LIB",
             library.display()
         );
     }
 }
 
-/// The file that FELMUGO_LIB names, else the one that `rt staticlib ffi` makes.
+/// The file that FELMUGO_LIB names, else the one that `tools/build ffi` makes.
 fn library() -> PathBuf {
     let manifest = env::var_os("CARGO_MANIFEST_DIR").expect("cargo sets CARGO_MANIFEST_DIR");
     let repository = Path::new(&manifest)

@@ -1,5 +1,7 @@
 // The adjacent rows of cpu_stark.rs: a record that refers to both lent rows, over a core that takes the
 // rows plainly (crates row_values and pair).
+#![tactic(auto)]
+
 ghost use Rattle.std.specs.Prelude.{◌≡◌};
 ghost use Rattle.table.specs.CpuStark.{lv_is_ext_inst, lv_ext_length};
 ghost use Rattle.row_values.specs.RowValue.{row_value};

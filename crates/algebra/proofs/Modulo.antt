@@ -1,6 +1,6 @@
 -- The residues modulo m are a commutative ring.
 use mathlib.Core.Path.{◌≡◌, refl, sym, ap, ◌∙◌}
-use Prim.Native.Nat.{ℕ, zero, ◌+◌, ◌-◌, ◌*◌, ◌/◌, ◌%◌, ◌<◌, Fin}
+use Prim.Native.Nat.{ℕ, zero, ◌+◌, ◌*◌, ◌/◌, ◌%◌, ◌<◌, Fin}
 use native.Mathlib.Nat.{add_comm, add_assoc, zero-add, mul_comm, mul_assoc, one-mul, mul-add, add-mul, mod-eq_of_lt, mod-add-mod, add-mod-mod, add-mod, mod_self, zero-mod, sub-add_cancel, le_of_lt, div-add-mod, mul-add-mod_self_left}
 use native.Mathlib.Numerals.{suc-eq-add-one}
 use Rattle.algebra.specs.Ring.{IsRing}

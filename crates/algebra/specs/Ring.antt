@@ -1,5 +1,5 @@
 -- Operations, the laws of a commutative ring and of an integral domain, and maps that keep the operations.
-use Rattle.std.specs.Prelude.{◌≡◌, ◌⊎◌, ◌≢◌, ℕ, zero, suc}
+use Rattle.std.specs.Prelude.{◌≡◌, ◌⊎◌, ◌≢◌, ℕ, suc}
 
 -- operations alone, with no law: `nat n` is the number n as an element
 pub record Ops : Type 1 where

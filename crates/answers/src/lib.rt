@@ -1,4 +1,5 @@
 // What the judge and the report of a run answer.
+#![tactic(auto)]
 
 // What the judge says of a pair, or the number with which the call is turned back.
 #[derive(Clone, Copy)]

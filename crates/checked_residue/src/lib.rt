@@ -1,4 +1,6 @@
 // The entries for callers that hand over what they read: an operand that is not below p is refused.
+#![tactic(auto)]
+
 ghost use Rattle.std.specs.Prelude.{◌≡◌, [], ◌∷◌};
 ghost use Rattle.refusals.specs.Refusal.{lowest, not_below_p};
 ghost use Rattle.residue.specs.Residues.{add_p, sub_p, mul_p};

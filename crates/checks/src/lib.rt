@@ -1,4 +1,6 @@
 // Whether a condition of the refusal table holds, of masks and rows that a caller lent.
+#![tactic(auto)]
+
 ghost use Rattle.std.specs.Prelude.{◌≡◌, length};
 ghost use Rattle.refusals.specs.Refusal.{lowest, sizes as sizeConditions, contents as contentConditions, mask_contents, canonical as isCanonical, member as isMember, distinct as areDistinct};
 

@@ -42,9 +42,9 @@ module _ {Γ : Cx} {u : Mo Γ} (m l n : List ℕ) (z f : ℕ) where
   unfolding eval values ext_lines_selectors each
   ext_lines_selectors_of k p q = rw (p, q) (sym k.ensures)
 
-  pub ext_lines_op1_imm_of : {ar : ArgsT op1_imm.ps Γ.locals} (k : Called op1_imm.ps op1_imm.r op1-imm-reads.Learnt Γ ar u) →
-      l ≡ (args_v k.lifetimes op1_imm.ps Γ.locals ar u).0.now →
-      n ≡ (args_v k.lifetimes op1_imm.ps Γ.locals ar u).1.0.now →
+  pub ext_lines_op1_imm_of : {ar : ArgsT op1-imm.ps Γ.locals} (k : Called op1-imm.ps op1-imm.r op1-imm-reads.Learnt Γ ar u) →
+      l ≡ (args_v k.lifetimes op1-imm.ps Γ.locals ar u).0.now →
+      n ≡ (args_v k.lifetimes op1-imm.ps Γ.locals ar u).1.0.now →
       values residues (cells m l n z f) ext_lines_op1_imm ≡ k.result
   unfolding eval values ext_lines_op1_imm
   ext_lines_op1_imm_of k p q = rw (p, q) (sym k.ensures)

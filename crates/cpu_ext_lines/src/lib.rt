@@ -1,2 +1,4 @@
 // The constraints of the ext lines (D).
+#![tactic(auto)]
+
 pub mod ext_lines;

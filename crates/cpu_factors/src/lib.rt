@@ -1,5 +1,7 @@
 // Products of a row's selectors and flags that several constraints of tape.rs and call_sc.rs (M, N) begin with,
 // computed once.
+#![tactic(auto)]
+
 ghost use Rattle.std.specs.Prelude.{[]};
 ghost use Rattle.table.specs.Rows.{Row};
 ghost use Rattle.table.specs.Shared.{Shared};

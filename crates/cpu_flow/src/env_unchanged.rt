@@ -8,7 +8,7 @@ ghost use Rattle.table.specs.Rows.{Row, Rows};
 ghost use Rattle.table.specs.Shared.{Shared};
 ghost use Rattle.table.specs.Entry.{values};
 ghost use Rattle.table.specs.CpuStark.{constraint_env_unchanged_clk, instruction_size, pc_next, constraint_env_unchanged_pc};
-ghost use Rattle.cpu_flow.specs.Clk.{clk_kept};
+ghost use Rattle.cpu_flow.specs.Clk.{clk_kept as clk_kept_value};
 
 use residue::below::{add, sub};
 use residue::mul;
@@ -77,7 +77,7 @@ pub fn pc_next(lv: &[u64]) -> u64
 // 147 to 149 (J); 147 is 145 again
 pub fn constraint_env_unchanged_pc(lv: &[u64], nv: &[u64], clk_kept: u64) -> [u64; 3]
     requires rows { Rows lv.now nv.now }
-    requires clk { Shared (clk_kept ∷ []) lv.now nv.now (clk_kept ∷ []) }
+    requires clk { Shared (clk_kept_value ∷ []) lv.now nv.now (clk_kept ∷ []) }
     ensures { result ≡ values residues (cells [] lv.now nv.now 0 0) constraint_env_unchanged_pc }
 {
     let nv_is_main_line = sub(1, nv[COL_IS_EXT_LINE]);

@@ -25,16 +25,16 @@ module _ {Γ : Cx} {u : Mo Γ} (m l n : List ℕ) (z f : ℕ) where
   unfolding eval values plus_all plus_shifted instruction constraint_instruction_encode
   constraint_instruction_encode_of k p = rw p (sym k.ensures)
 
-  pub selectors_binary_of : {ar : ArgsT selectors_binary.ps Γ.locals} (k : Called selectors_binary.ps selectors_binary.r selectors-binary-reads.Learnt Γ ar u) (s : ℕ) →
-      l ≡ (args_v k.lifetimes selectors_binary.ps Γ.locals ar u).0.now →
-      s ≡ (args_v k.lifetimes selectors_binary.ps Γ.locals ar u).1.0 →
+  pub selectors_binary_of : {ar : ArgsT selectors-binary.ps Γ.locals} (k : Called selectors-binary.ps selectors-binary.r selectors-binary-reads.Learnt Γ ar u) (s : ℕ) →
+      l ≡ (args_v k.lifetimes selectors-binary.ps Γ.locals ar u).0.now →
+      s ≡ (args_v k.lifetimes selectors-binary.ps Γ.locals ar u).1.0 →
       values residues (cells m l n z f) (selectors_binary s) ≡ k.result
   unfolding eval values each selectors_binary
   selectors_binary_of k s p q = rw (p, q) (sym k.ensures)
 
-  pub operand_sums_of : {ar : ArgsT operand_sums.ps Γ.locals} (k : Called operand_sums.ps operand_sums.r operand-sums-reads.Learnt Γ ar u) →
-      l ≡ (args_v k.lifetimes operand_sums.ps Γ.locals ar u).0.now →
-      n ≡ (args_v k.lifetimes operand_sums.ps Γ.locals ar u).1.0.now →
+  pub operand_sums_of : {ar : ArgsT operand-sums.ps Γ.locals} (k : Called operand-sums.ps operand-sums.r operand-sums-reads.Learnt Γ ar u) →
+      l ≡ (args_v k.lifetimes operand-sums.ps Γ.locals ar u).0.now →
+      n ≡ (args_v k.lifetimes operand-sums.ps Γ.locals ar u).1.0.now →
       values residues (cells m l n z f) operand_sums ≡ k.result
   unfolding eval values plus_all selector_sum selected selected_next operand_sums
   operand_sums_of k p q = rw (p, q) (sym k.ensures)

@@ -29,10 +29,10 @@ module _ {Γ : Cx} {u : Mo Γ} where
     unfolding sum_s_op
     sum_sOp_of m l n z f = sum_of k m l n z f COL-S-SIMPLE-ARITHMATIC-OP NUM-OP-SELECTOR
 
-  module _ {ar : ArgsT cal_opcode.ps Γ.locals} (k : Called cal_opcode.ps cal_opcode.r cal-opcode-reads.Learnt Γ ar u) where
+  module _ {ar : ArgsT cal-opcode.ps Γ.locals} (k : Called cal-opcode.ps cal-opcode.r cal-opcode-reads.Learnt Γ ar u) where
     pub cal_opcode_of : (m l n : List ℕ) (z f : ℕ) →
-        l ≡ (args_v k.lifetimes cal_opcode.ps Γ.locals ar u).0.now →
-        m ≡ (args_v k.lifetimes cal_opcode.ps Γ.locals ar u).1.0.now →
+        l ≡ (args_v k.lifetimes cal-opcode.ps Γ.locals ar u).0.now →
+        m ≡ (args_v k.lifetimes cal-opcode.ps Γ.locals ar u).1.0.now →
         eval residues (cells m l n z f) cal_opcode ≡ k.result
     unfolding eval plus_all cal_opcode
     cal_opcode_of m l n z f e d = rw (e, d) (sym k.ensures.0)

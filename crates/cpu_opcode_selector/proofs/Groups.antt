@@ -19,22 +19,22 @@ use Rattle.cpu_opcode_selector.proofs.selectors.opcode_sums.Kinds as opcode-sums
 use Rattle.cpu_opcode_selector.proofs.selectors.opcode_sums.Reads as opcode-sums-reads
 
 module _ {Γ : Cx} {u : Mo Γ} (m l n : List ℕ) (z f : ℕ) where
-  pub opcode_products_of : {ar : ArgsT opcode_products.ps Γ.locals} (k : Called opcode_products.ps opcode_products.r opcode-products-reads.Learnt Γ ar u) →
-      l ≡ (args_v k.lifetimes opcode_products.ps Γ.locals ar u).0.now →
-      m ≡ (args_v k.lifetimes opcode_products.ps Γ.locals ar u).1.0.now →
+  pub opcode_products_of : {ar : ArgsT opcode-products.ps Γ.locals} (k : Called opcode-products.ps opcode-products.r opcode-products-reads.Learnt Γ ar u) →
+      l ≡ (args_v k.lifetimes opcode-products.ps Γ.locals ar u).0.now →
+      m ≡ (args_v k.lifetimes opcode-products.ps Γ.locals ar u).1.0.now →
       values residues (cells m l n z f) opcode_products ≡ k.result
   unfolding eval values opcode_products
   opcode_products_of k p q = rw (p, q) (sym k.ensures)
 
-  pub opcode_selectors_binary_of : {ar : ArgsT opcode_selectors_binary.ps Γ.locals} (k : Called opcode_selectors_binary.ps opcode_selectors_binary.r opcode-selectors-binary-reads.Learnt Γ ar u) →
-      l ≡ (args_v k.lifetimes opcode_selectors_binary.ps Γ.locals ar u).0.now →
+  pub opcode_selectors_binary_of : {ar : ArgsT opcode-selectors-binary.ps Γ.locals} (k : Called opcode-selectors-binary.ps opcode-selectors-binary.r opcode-selectors-binary-reads.Learnt Γ ar u) →
+      l ≡ (args_v k.lifetimes opcode-selectors-binary.ps Γ.locals ar u).0.now →
       values residues (cells m l n z f) opcode_selectors_binary ≡ k.result
   unfolding eval values each opcode_selectors_binary
   opcode_selectors_binary_of k p = rw p (sym k.ensures)
 
-  pub opcode_sums_of : {ar : ArgsT opcode_sums.ps Γ.locals} (k : Called opcode_sums.ps opcode_sums.r opcode-sums-reads.Learnt Γ ar u) →
-      l ≡ (args_v k.lifetimes opcode_sums.ps Γ.locals ar u).0.now →
-      m ≡ (args_v k.lifetimes opcode_sums.ps Γ.locals ar u).1.0.now →
+  pub opcode_sums_of : {ar : ArgsT opcode-sums.ps Γ.locals} (k : Called opcode-sums.ps opcode-sums.r opcode-sums-reads.Learnt Γ ar u) →
+      l ≡ (args_v k.lifetimes opcode-sums.ps Γ.locals ar u).0.now →
+      m ≡ (args_v k.lifetimes opcode-sums.ps Γ.locals ar u).1.0.now →
       values residues (cells m l n z f) opcode_sums ≡ k.result
   unfolding eval values plus_all sum_s_op cal_opcode opcode_sums
   opcode_sums_of k p q = rw (p, q) (sym k.ensures)

@@ -1,4 +1,6 @@
 // The entries for C and Rust: an answer is a number or a flat struct (crate flat), a slice a pointer and then a length.
+#![tactic(auto)]
+
 ghost use Rattle.std.specs.Prelude.{◌≡◌};
 ghost use Rattle.residue.specs.Residues.{add_p, sub_p, mul_p};
 ghost use Rattle.checked_residue.specs.Answer.{checked};

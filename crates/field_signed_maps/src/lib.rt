@@ -1,4 +1,6 @@
 // The maps between a residue and its signed form.
+#![tactic(auto)]
+
 ghost use Rattle.std.specs.Prelude.{◌≡◌, ◌≤◌, pos, nat_abs, ◌-ℤ◌};
 ghost use Rattle.refusals.specs.Refusal.{greatest};
 ghost use Rattle.field_signed.specs.Answer.{to_signed, to_residue};

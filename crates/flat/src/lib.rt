@@ -1,4 +1,6 @@
 // Answers as flat structs, for C and Rust.
+#![tactic(auto)]
+
 ghost use Rattle.std.specs.Prelude.{◌≡◌};
 ghost use Rattle.flat.specs.Flat.{flat_residue, flat_signed, flat_verdict, flat_report};
 

@@ -1,4 +1,6 @@
 // The entry for the values of a pair of rows.
+#![tactic(auto)]
+
 ghost use Rattle.pair_checks.specs.PairValues.{PairValuesCall};
 
 use pair_checks::refusal;

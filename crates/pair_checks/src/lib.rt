@@ -1,4 +1,6 @@
 // With which number a call for the values of a pair of rows is turned back.
+#![tactic(auto)]
+
 ghost use Rattle.std.specs.Prelude.{◌≡◌};
 ghost use Rattle.pair_checks.specs.PairValues.{pair_values_refusal};
 

@@ -1,4 +1,6 @@
 // With which number a call for the fold of a pair of rows is turned back.
+#![tactic(auto)]
+
 ghost use Rattle.std.specs.Prelude.{◌≡◌, [], ◌∷◌, ◌++◌};
 ghost use Rattle.refusals.specs.Refusal.{lowest, alpha_count, not_below_p};
 ghost use Rattle.pair_fold_checks.specs.PairFold.{pair_fold_refusal};

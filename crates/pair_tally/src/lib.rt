@@ -1,4 +1,6 @@
 // How many values of a pair are not 0, and which is the first.
+#![tactic(auto)]
+
 ghost use Rattle.std.specs.Prelude.{◌≡◌, ◌<◌};
 ghost use Rattle.algebra.specs.Prime.{p};
 ghost use Rattle.table.specs.Rows.{Rows, Masks};

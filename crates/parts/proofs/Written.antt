@@ -5,17 +5,11 @@ use mathlib.Core.Path.{◌≡◌, refl, sym, ◌∙◌, ap}
 use mathlib.Core.List.{List, [], ◌∷◌, ◌++◌, append_assoc}
 use lib.ListN.{length, take, drop, length-append}
 use lib.Seq.{take_at, drop-append-add, drop-drop, length-take-le}
-use borrow.Fn.Args.{ArgsT, args_v}
-use borrow.Table.Row.{Cx}
-use borrow.Table.Typed.{Mo}
-use borrow.Author.Called.{Called}
 use Rattle.residue.specs.Residues.{residues}
 use Rattle.table.specs.Cells.{Cell}
 use Rattle.table.specs.Entry.{Entry, values}
 use Rattle.parts.specs.Parts.{write}
 use Rattle.parts.proofs.Laws.{values-append}
-use Rattle.parts.proofs.put.Kinds.{ps, r}
-use Rattle.parts.proofs.put.Reads.{Learnt}
 
 pub length-values : (env : Cell → ℕ) (es : List Entry) → length (values residues env es) ≡ length es
 unfolding values
@@ -36,18 +30,14 @@ joined env l at a g n vs h q e =
     rw (e, values-append env a g)
     (write-next l at (values residues env a) (values residues env g) n h (ap (λ (k : ℕ). at + k) (length-values env a) ∙ q))
 
-module _ {Γ : Cx} {u : Mo Γ} {ar : ArgsT ps Γ.locals} where
-  pub put_of : (k : Called ps r Learnt Γ ar u) (l : List ℕ) (at : ℕ) (vs : List ℕ) →
-      l ≡ (args_v k.lifetimes ps Γ.locals ar u).0.now →
-      at ≡ (args_v k.lifetimes ps Γ.locals ar u).1.0 →
-      vs ≡ (args_v k.lifetimes ps Γ.locals ar u).1.1.0.now →
-      write l at vs ≡ k.new.0
-  put_of k l at vs p q e = sym (k.ensures ∙ rw (← p, ← q, ← e))
+-- a call's `ensures` says what it writes: n is what it leaves in the buffer m, where it writes vs from the place k on
+pub put_of : {n m vs : List ℕ} {k : ℕ} → n ≡ write m k vs → (l : List ℕ) (at : ℕ) (ws : List ℕ) → l ≡ m → at ≡ k → ws ≡ vs → write l at ws ≡ n
+put_of h l at ws p q e = sym (h ∙ rw (← p, ← q, ← e))
 
-  pub put_next : (k : Called ps r Learnt Γ ar u) (env : Cell → ℕ) (l : List ℕ) (at : ℕ) (a b : List Entry) →
-      write l at (values residues env a) ≡ (args_v k.lifetimes ps Γ.locals ar u).0.now →
-      at + length a ≡ (args_v k.lifetimes ps Γ.locals ar u).1.0 →
-      values residues env b ≡ (args_v k.lifetimes ps Γ.locals ar u).1.1.0.now →
-      at ≤ length l →
-      write l at (values residues env (a ++ b)) ≡ k.new.0
-  put_next k env l at a b p q e h = sym (k.ensures ∙ rw (← p, ← e) (joined env l at a b _ _ h q refl))
+pub put_next : {n m vs : List ℕ} {k : ℕ} → n ≡ write m k vs → (env : Cell → ℕ) (l : List ℕ) (at : ℕ) (a b : List Entry) →
+    write l at (values residues env a) ≡ m →
+    at + length a ≡ k →
+    values residues env b ≡ vs →
+    at ≤ length l →
+    write l at (values residues env (a ++ b)) ≡ n
+put_next h env l at a b p q e i = sym (h ∙ rw (← p, ← e) (joined env l at a b _ _ i q refl))

@@ -1,4 +1,6 @@
 // Loops over parts of a row, and writing values to a part of the buffer.
+#![tactic(auto)]
+
 ghost use Rattle.std.specs.Prelude.{◌≡◌, ◌+◌, ◌≤◌, length, get_or};
 ghost use Rattle.residue.specs.Residues.{mul_p};
 ghost use Rattle.parts.specs.Parts.{up_to, write};

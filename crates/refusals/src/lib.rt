@@ -1,4 +1,6 @@
 // The numbers with which a call is turned back, as specs/Refusal.antt has them.
+#![tactic(auto)]
+
 pub const ROW_LENGTH: u64 = 1;
 
 pub const MASK_COUNT: u64 = 2;

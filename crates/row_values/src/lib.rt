@@ -1,4 +1,6 @@
 // Values of one row, taken plainly: the core under the record of adjacent rows.
+#![tactic(auto)]
+
 ghost use Rattle.std.specs.Prelude.{◌≡◌};
 ghost use Rattle.refusals.specs.Refusal.{lowest};
 ghost use Rattle.table.specs.CpuStark.{lv_is_ext_inst, lv_ext_length};

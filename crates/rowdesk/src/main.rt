@@ -1,6 +1,6 @@
 // Reads 25 masks, then rows, from standard input, and prints a line for each pair of rows: how many of its values are not 0.
 use stream_text::Text;
 
-fn main() {
-    stream_reading::run(Text::Counts, b"rowdesk");
+fn main(rt: HostRuntime) {
+    stream_reading::run(rt, Text::Counts, b"rowdesk");
 }

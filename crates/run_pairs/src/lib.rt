@@ -1,4 +1,6 @@
 // A run of rows: its weights, and with which number it is turned back.
+#![tactic(auto)]
+
 ghost use Rattle.std.specs.Prelude.{◌≡◌};
 ghost use Rattle.refusals.specs.Refusal.{run_length};
 ghost use Rattle.run_pairs.specs.Run.{first_weight, run_refusal};

@@ -1,4 +1,6 @@
 // The report of a run of rows.
+#![tactic(auto)]
+
 ghost use Rattle.std.specs.Prelude.{◌≡◌, ◌<◌};
 ghost use Rattle.tally.specs.Tally.{tally_of};
 ghost use Rattle.run_pairs.specs.Run.{row_count, pair_at, pairs_of, run_refusal};

@@ -1,4 +1,6 @@
 // The first stage of the table (A to E), written to a buffer group by group.
+#![tactic(auto)]
+
 ghost use Rattle.std.specs.Prelude.{◌≡◌, [], ◌<◌, ◌≤◌, length};
 ghost use Rattle.algebra.specs.Prime.{p};
 ghost use Rattle.residue.specs.Residues.{residues};

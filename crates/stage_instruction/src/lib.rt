@@ -1,4 +1,6 @@
 // The second stage of the table (F to H), written to a buffer group by group.
+#![tactic(auto)]
+
 ghost use Rattle.std.specs.Prelude.{◌≡◌, ◌≤◌, length};
 ghost use Rattle.residue.specs.Residues.{residues};
 ghost use Rattle.parts.specs.Parts.{write};

@@ -1,4 +1,6 @@
 // The last stage of the table (L to N), written to a buffer group by group.
+#![tactic(auto)]
+
 ghost use Rattle.std.specs.Prelude.{◌≡◌, ◌<◌, ◌≤◌, length};
 ghost use Rattle.algebra.specs.Prime.{p};
 ghost use Rattle.residue.specs.Residues.{residues};

@@ -6,19 +6,12 @@ use Prim.Native.Nat.{ℕ, ◌+◌, ◌-◌, ◌*◌, ◌/◌, ◌%◌, ◌≤◌
 use native.Mathlib.Omega.{arith}
 use lib.ListN.{length, take, drop, length-drop}
 use lib.Seq.{length-take-le}
-use Rattle.io.specs.Counts.{IsPrefixLen}
 use Rattle.stream_model.specs.Rows.{rows_in}
 use Rattle.stream_model.specs.Sound.{Sound, Onward}
 use Rattle.stream_model.specs.declared.State.{State}
 use Rattle.stream_model.proofs.Laws.{by_cases}
-use Rattle.stream_reading.specs.Turns.{Fits, Kept, Ready, Nearer}
-use Rattle.stream_reading.specs.declared.Got.{Got}
-use Rattle.stream_reading.specs.declared.Got.TheVariants.{Bytes}
+use Rattle.stream_reading.specs.Turns.{Kept, Ready, Nearer}
 use Rattle.stream_reading.specs.declared.Reading.{Reading}
-
--- the bytes that were read
-pub fits_bytes : (r : Got) (n : ℕ) (bytes : List ℕ) → r ≡ Bytes n → Fits r bytes → IsPrefixLen n bytes
-fits_bytes r n bytes e f = subst (λ (x : Got). Fits x bytes) e f
 
 module _ {t r : State} (p : Kept t r) where
   pub kept_onward : {k : ℕ} {s : State} → Onward k s t → Onward k s r

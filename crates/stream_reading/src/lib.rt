@@ -6,7 +6,7 @@ ghost use Rattle.stream_model.specs.Rows.{rows_in};
 ghost use Rattle.stream_model.specs.Sound.{Sound, Onward};
 ghost use Rattle.stream_reading.specs.Turns.{block_bytes, text_bytes, Fits, Kept, Ready, Nearer};
 
-use libc::{STDERR_FILENO, STDIN_FILENO, STDOUT_FILENO};
+use std::io::Read;
 use stream_model::{MASK_BYTES, ROW_BYTES, State};
 use stream_text::{PAIR_BYTES, Text};
 
@@ -31,30 +31,32 @@ struct Reading {
 }
 
 // Says on standard error what the program could not do.
-fn failed(name: &[u8], what: &[u8]) {
-    io::write_all(STDERR_FILENO, name);
-    io::write_all(STDERR_FILENO, what);
+fn failed(rt: HostRuntime, name: &[u8], what: &[u8]) {
+    let _ = rt.stderr().write_all(name);
+    let _ = rt.stderr().write_all(what);
 }
 
 // One read.
-fn read_some(name: &[u8], bytes: &mut [u8]) -> Got
+fn read_some(rt: HostRuntime, name: &[u8], bytes: &mut [u8]) -> Got
     ensures { Fits result bytes.new }
 {
-    let got = libc::read(STDIN_FILENO, bytes);
-    if got < 0 {
-        failed(name, b": standard input could not be read\n");
-        return Got::Failed;
+    let mut input = rt.stdin();
+    match input.read(bytes) {
+        Ok(got) => Got::Bytes(got),
+        Err(_) => {
+            failed(rt, name, b": standard input could not be read\n");
+            Got::Failed
+        }
     }
-    Got::Bytes(io::count(got, bytes))
 }
 
 // Reads until the bytes are full or the input ends; a failed read gives nothing.
-fn read_full(name: &[u8], bytes: &mut [u8]) -> Got
+fn read_full(rt: HostRuntime, name: &[u8], bytes: &mut [u8]) -> Got
     ensures { Fits result bytes.new }
 {
     let mut n = 0;
     while n < bytes.len() {
-        match read_some(name, &mut bytes[n..]) {
+        match read_some(rt, name, &mut bytes[n..]) {
             Got::Bytes(got) => {
                 if got == 0 {
                     return Got::Bytes(n);
@@ -70,30 +72,30 @@ fn read_full(name: &[u8], bytes: &mut [u8]) -> Got
 }
 
 // Prints the text. A failed write ends the program.
-fn print(name: &[u8], s: State, text: &[u8]) -> State
+fn print(rt: HostRuntime, name: &[u8], s: State, text: &[u8]) -> State
     requires { Sound s }
     ensures { Kept s result }
 {
     let mut state = s;
-    if !io::write_all(STDOUT_FILENO, text) {
-        failed(name, b": standard output could not be written\n");
+    if rt.stdout().write_all(text).is_err() {
+        failed(rt, name, b": standard output could not be written\n");
         state.running = false;
     }
     state
 }
 
 // Takes what was read for the masks, and prints the refusal if there is one.
-fn begin(name: &[u8], bytes: &[u8]) -> State
+fn begin(rt: HostRuntime, name: &[u8], bytes: &[u8]) -> State
     ensures { Sound result }
 {
     let mut out = [0u8; PAIR_BYTES];
     let step = stream_steps::start(bytes, &mut out);
     let next = step.next;
-    print(name, step.state, &out[..next])
+    print(rt, name, step.state, &out[..next])
 }
 
 // Feeds the whole rows of a block, and prints their texts: with one call, unless the buffer fills up before.
-fn block(text: Text, name: &[u8], s: State, bytes: &[u8], out: &mut [u8]) -> State
+fn block(rt: HostRuntime, text: Text, name: &[u8], s: State, bytes: &[u8], out: &mut [u8]) -> State
     requires room { length out.old ≡ text_bytes }
     requires sound { Sound s }
     ensures { Onward (rows_in bytes.now) s result }
@@ -107,14 +109,14 @@ fn block(text: Text, name: &[u8], s: State, bytes: &[u8], out: &mut [u8]) -> Sta
         let fed = stream_blocks::feed_rows(text, state, &bytes[from..], out);
         let step = fed.step;
         let next = step.next;
-        state = print(name, step.state, &out[..next]);
+        state = print(rt, name, step.state, &out[..next]);
         from += ROW_BYTES * fed.rows;
     }
     state
 }
 
 // The end of the input: what is left of it, less than a row, is fed as it is.
-fn end(text: Text, name: &[u8], s: State, bytes: &[u8], out: &mut [u8]) -> State
+fn end(rt: HostRuntime, text: Text, name: &[u8], s: State, bytes: &[u8], out: &mut [u8]) -> State
     requires part { length bytes.now < row_bytes }
     requires room { length out.old ≡ text_bytes }
     requires sound { Sound s }
@@ -123,11 +125,11 @@ fn end(text: Text, name: &[u8], s: State, bytes: &[u8], out: &mut [u8]) -> State
 {
     let step = stream_steps::feed(text, s, bytes, out, 0);
     let next = step.next;
-    print(name, step.state, &out[..next])
+    print(rt, name, step.state, &out[..next])
 }
 
 // Reads once behind what is read, and feeds what that makes whole. A full buffer, whose rows are all fed, is read from its start.
-fn turn(text: Text, name: &[u8], r: Reading, bytes: &mut [u8], out: &mut [u8]) -> Reading
+fn turn(rt: HostRuntime, text: Text, name: &[u8], r: Reading, bytes: &mut [u8], out: &mut [u8]) -> Reading
     requires buffer { length bytes.old ≡ block_bytes }
     requires room { length out.old ≡ text_bytes }
     requires ready { Ready r }
@@ -135,18 +137,18 @@ fn turn(text: Text, name: &[u8], r: Reading, bytes: &mut [u8], out: &mut [u8]) -
 {
     let read = r.read;
     let before = r.state;
-    match read_some(name, &mut bytes[read..]) {
+    match read_some(rt, name, &mut bytes[read..]) {
         Got::Bytes(got) => {
             let from = read / ROW_BYTES * ROW_BYTES;
             let to = read + got;
             if got == 0 {
-                let last = end(text, name, before, &bytes[from..to], out);
+                let last = end(rt, text, name, before, &bytes[from..to], out);
                 return Reading {
                     state: last,
                     read: 0,
                 };
             }
-            let state = block(text, name, before, &bytes[from..to], out);
+            let state = block(rt, text, name, before, &bytes[from..to], out);
             if to == BLOCK_BYTES {
                 return Reading { state, read: 0 };
             }
@@ -164,23 +166,23 @@ fn turn(text: Text, name: &[u8], r: Reading, bytes: &mut [u8], out: &mut [u8]) -
 }
 
 // Reads rows, turn by turn.
-fn rows(text: Text, name: &[u8], s: State)
+fn rows(rt: HostRuntime, text: Text, name: &[u8], s: State)
     requires { Sound s }
 {
     let mut bytes = [0u8; BLOCK_BYTES];
     let mut out = [0u8; TEXT_BYTES];
     let mut reading = Reading { state: s, read: 0 };
     while reading.state.running {
-        reading = turn(text, name, reading, &mut bytes, &mut out);
+        reading = turn(rt, text, name, reading, &mut bytes, &mut out);
     }
 }
 
 // Runs a program of this name that prints this text of each pair.
-pub fn run(text: Text, name: &[u8]) {
+pub fn run(rt: HostRuntime, text: Text, name: &[u8]) {
     let mut masks = [0u8; MASK_BYTES];
-    match read_full(name, &mut masks) {
+    match read_full(rt, name, &mut masks) {
         Got::Bytes(n) => {
-            rows(text, name, begin(name, &masks[..n]));
+            rows(rt, text, name, begin(rt, name, &masks[..n]));
         }
         Got::Failed => {}
     }

@@ -1,5 +1,5 @@
--- The columns of a row (columns.rs), with the numbers that document 01 sets. A `Range` has its start and its end. In definitions the
--- names have - for _, which marks an argument there.
+-- The columns of a row (columns.rs), with the numbers that document 01 sets. A `Range` has its start and its end. The names
+-- have - for _ here, so that none is that of a constant of src/.
 use Rattle.std.specs.Prelude.{ℕ}
 
 abbrev pub REGISTER-NUM : ℕ

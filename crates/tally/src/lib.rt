@@ -1,4 +1,6 @@
 // How many of some values are not 0, and which is the first.
+#![tactic(auto)]
+
 ghost use Rattle.std.specs.Prelude.{◌≡◌};
 ghost use Rattle.tally.specs.Tally.{tally_of};
 

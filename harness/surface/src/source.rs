@@ -45,6 +45,11 @@ impl<'a> Reader<'a> {
         let mut is_public = false;
         loop {
             match self.next()? {
+                // The file's own attribute is followed by no item.
+                "#" if self.peek() == Some("!") => {
+                    self.at += 1;
+                    return self.group();
+                }
                 "#" => self.group()?,
                 "pub" => is_public = true,
                 "extern" if self.peek() == Some("\"C\"") => self.at += 1,

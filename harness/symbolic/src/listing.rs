@@ -4,8 +4,7 @@ use crate::program::Program;
 
 const HEAD: &str = "\
 -- The table's program: constants and words, made of the Rust's expressions by `harness/run listing` (do not edit).
-use mathlib.Core.List.{List, [], _∷_}
-use Prim.Native.Nat.{ℕ}
+use Rattle.std.specs.Prelude.{List, [], ◌∷◌, ℕ}
 ";
 /// The longest line of a list.
 const WIDTH: usize = 120;

@@ -1,11 +1,9 @@
 -- `checks::canonical_each` meets its contract: what is left of the slice decides.
-use Prim.Native.Nat.{◌≤◌, ◌<◌, ◌-◌}
-use mathlib.Core.Path.{◌≡◌, refl, ◌∙◌}
+use Prim.Native.Nat.{◌≤◌, ◌<◌}
+use mathlib.Core.Path.{refl, ◌∙◌}
 use native.Mathlib.Omega.{arith}
-use borrow.Author.Rules.{rules}
 use borrow.Author.Tests.{lt-ltb, le-ltb}
-use lib.ListN.{length, drop}
-use Rattle.refusals.specs.Refusal.{canonical}
+use lib.ListN.{length}
 use Rattle.refusals.proofs.Laws.{canonical-at, canonical-end}
 use Rattle.checks.proofs.canonical_each.Goals as goal
 

@@ -1,11 +1,7 @@
-use Prim.Native.Nat.{◌≤◌, ◌<◌, ◌-◌}
-use mathlib.Core.Path.{◌≡◌, refl, ◌∙◌}
-use native.Mathlib.Omega.{arith}
-use borrow.Author.Rules.{rules}
-use borrow.Author.Tests.{lt-ltb, le-ltb}
+use Prim.Native.Nat.{◌-◌}
+use mathlib.Core.Path.{◌≡◌}
 use lib.ListN.{length, drop}
 use Rattle.refusals.specs.Refusal.{canonical}
-use Rattle.refusals.proofs.Laws.{canonical-at, canonical-end}
 use Rattle.checks.proofs.canonical_each.Given as goal
 
 abbrev pub invariant-loop-i : goal.invariant-loop-i

@@ -1,6 +1,5 @@
 -- `checks::contents` meets its contract.
 use mathlib.Core.Path.{sym, ◌∙◌}
-use borrow.Author.Rules.{rules}
 use Rattle.checks.proofs.Laws.{denied, kept}
 use Rattle.checks.proofs.contents.Goals as goal
 

@@ -1,10 +1,8 @@
 -- `checks::distinct` meets its contract.
-use Prim.Native.Nat.{◌-◌, ◌≤◌, ◌<◌}
-use mathlib.Core.Path.{◌≡◌, sym, ◌∙◌}
+use Prim.Native.Nat.{◌≤◌, ◌<◌}
+use mathlib.Core.Path.{sym, ◌∙◌}
 use native.Mathlib.Omega.{arith}
-use lib.ListN.{length, drop}
-use borrow.Author.Rules.{rules}
-use Rattle.refusals.specs.Refusal.{distinct, member}
+use lib.ListN.{length}
 use Rattle.refusals.proofs.Laws.{distinct_turn, distinct-end}
 use mathlib.Core.Bool.{true, false}
 use Rattle.checks.proofs.distinct.Goals as goal

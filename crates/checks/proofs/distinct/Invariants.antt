@@ -1,11 +1,7 @@
-use Prim.Native.Nat.{◌-◌, ◌≤◌, ◌<◌}
-use mathlib.Core.Path.{◌≡◌, sym, ◌∙◌}
-use native.Mathlib.Omega.{arith}
+use Prim.Native.Nat.{◌-◌}
+use mathlib.Core.Path.{◌≡◌}
 use lib.ListN.{length, drop}
-use borrow.Author.Rules.{rules}
-use Rattle.refusals.specs.Refusal.{distinct, member}
-use Rattle.refusals.proofs.Laws.{distinct_turn, distinct-end}
-use mathlib.Core.Bool.{true, false}
+use Rattle.refusals.specs.Refusal.{distinct}
 use Rattle.checks.proofs.distinct.Given as goal
 
 abbrev pub invariant-loop-i : goal.invariant-loop-i

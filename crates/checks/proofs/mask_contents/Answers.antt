@@ -1,7 +1,6 @@
 -- `checks::mask_contents` meets its contract.
 use mathlib.Core.Path.{ap}
 use mathlib.Core.Bool.{not}
-use borrow.Author.Rules.{rules}
 use Rattle.checks.proofs.Laws.{denied, kept}
 use Rattle.checks.proofs.mask_contents.Goals as goal
 

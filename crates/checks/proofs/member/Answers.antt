@@ -1,11 +1,9 @@
 -- `checks::member` meets its contract: what is left of the slice decides.
-use Prim.Native.Nat.{◌≤◌, ◌<◌, ◌-◌}
-use mathlib.Core.Path.{◌≡◌, refl, ◌∙◌}
+use Prim.Native.Nat.{◌≤◌, ◌<◌}
+use mathlib.Core.Path.{refl, ◌∙◌}
 use native.Mathlib.Omega.{arith}
-use borrow.Author.Rules.{rules}
 use borrow.Author.Tests.{eq-eqb, ne_eqb}
-use lib.ListN.{length, drop}
-use Rattle.refusals.specs.Refusal.{member}
+use lib.ListN.{length}
 use Rattle.refusals.proofs.Laws.{member-at, member-end}
 use Rattle.checks.proofs.member.Goals as goal
 

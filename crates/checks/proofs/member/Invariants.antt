@@ -1,11 +1,7 @@
-use Prim.Native.Nat.{◌≤◌, ◌<◌, ◌-◌}
-use mathlib.Core.Path.{◌≡◌, refl, ◌∙◌}
-use native.Mathlib.Omega.{arith}
-use borrow.Author.Rules.{rules}
-use borrow.Author.Tests.{eq-eqb, ne_eqb}
+use Prim.Native.Nat.{◌-◌}
+use mathlib.Core.Path.{◌≡◌}
 use lib.ListN.{length, drop}
 use Rattle.refusals.specs.Refusal.{member}
-use Rattle.refusals.proofs.Laws.{member-at, member-end}
 use Rattle.checks.proofs.member.Given as goal
 
 abbrev pub invariant-loop-i : goal.invariant-loop-i

@@ -18,6 +18,6 @@ returns-then-residue-le-GREATEST c =
 
 pub returns : goal.returns
 returns c =
-    let read = to_z-of_z w64 _ (record { sfits = c.difference.type-inv }) in
+    let read = to_z-of_z w64 _ (record { sfits = c.difference.type_inv }) in
     ap Value (read ∙ c.difference.ensures ∙ below-zero _ (omega arith) (omega arith))
     ∙ sym (signed_given _ (omega arith))

@@ -1,10 +1,10 @@
 -- `parts::put` meets its contract: as far as the loop has come, the values are pasted in.
-use Prim.Native.Nat.{◌≤◌, ◌<◌, ◌+◌, ◌-◌}
+use Prim.Native.Nat.{◌<◌, ◌+◌}
 use mathlib.Core.Path.{◌≡◌, refl, ◌∙◌}
 use native.Mathlib.Omega.{arith}
 use native.Mathlib.Numerals.{add-one}
 use lib.ListN.{length, length-set}
-use lib.Seq.{paste, paste-zero, paste-suc, take-length}
+use lib.Seq.{paste-zero, paste-suc, take-length}
 use Rattle.parts.specs.Parts.{write}
 use Rattle.parts.proofs.put.Goals as goal
 

@@ -1,10 +1,8 @@
 -- `parts::scaled` meets its contract.
-use Prim.Native.Nat.{◌≤◌, ◌<◌, ◌-◌}
+use Prim.Native.Nat.{◌<◌}
 use mathlib.Core.Path.{◌≡◌, refl}
 use native.Mathlib.Omega.{arith}
-use lib.ListN.{length, take, get_or, length-set}
-use Rattle.residue.specs.Residues.{mul_p}
-use Rattle.parts.specs.Parts.{up_to}
+use lib.ListN.{length, length-set}
 use Rattle.parts.proofs.Laws.{filled, up_to-none, up_to-step}
 use Rattle.parts.proofs.scaled.Goals as goal
 

@@ -1,10 +1,8 @@
-use Prim.Native.Nat.{◌≤◌, ◌<◌, ◌-◌}
-use mathlib.Core.Path.{◌≡◌, refl}
-use native.Mathlib.Omega.{arith}
-use lib.ListN.{length, take, get_or, length-set}
+use Prim.Native.Nat.{◌≤◌, ◌-◌}
+use mathlib.Core.Path.{◌≡◌}
+use lib.ListN.{length, take, get_or}
 use Rattle.residue.specs.Residues.{mul_p}
 use Rattle.parts.specs.Parts.{up_to}
-use Rattle.parts.proofs.Laws.{filled, up_to-none, up_to-step}
 use Rattle.parts.proofs.scaled.Given as goal
 
 abbrev pub invariant-loop-i : goal.invariant-loop-i

@@ -23,16 +23,25 @@ pub constraint_wrapper_cols-wrapper_cols-requires : goal.constraint_wrapper_cols
 constraint_wrapper_cols-wrapper_cols-requires c = search (rules, one_shared)
 
 pub constraint_tx_init-requires : goal.constraint_tx_init-requires
-constraint_tx_init-requires c =
-    (c.requires.rows, (c.requires.z, (c.requires.f, omega (arith, c.requires.room, c.out-1.given))))
+constraint_tx_init-requires c = record {
+  rows = c.requires.rows;
+  z = c.requires.z;
+  f = c.requires.f;
+  room = omega (arith, c.requires.room, c.out-1.given);
+}
 
 pub constraint_ext_lines-requires : goal.constraint_ext_lines-requires
-constraint_ext_lines-requires c =
-    (c.requires.rows, (one_shared c.lv_ext_length-ext_length.ensures.value, omega (arith, c.requires.room, c.out-1.given, c.out-2-1.given, c.out-3-1.given)))
+constraint_ext_lines-requires c = record {
+  rows = c.requires.rows;
+  length = one_shared c.lv_ext_length-ext_length.ensures.value;
+  room = omega (arith, c.requires.room, c.out-1.given, c.out-2-1.given, c.out-3-1.given);
+}
 
 pub constraint_env_idx-env_idx-requires : goal.constraint_env_idx-env_idx-requires
-constraint_env_idx-env_idx-requires c =
-    (c.requires.rows, c.requires.z)
+constraint_env_idx-env_idx-requires c = record {
+  rows = c.requires.rows;
+  weight = c.requires.z;
+}
 
 pub put-requires-2 : goal.put-requires-2
 put-requires-2 c =
@@ -40,4 +49,4 @@ put-requires-2 c =
 
 pub returns : goal.returns
 unfolding context
-returns c = sym (put_next c.put-2 _ _ 0 (constraint_wrapper_cols ++ constraint_tx_init ++ eval_packed_generic_body ++ constraint_ext_lines) constraint_env_idx (search (put_next, put_of, joins, constraint_wrapper_cols_of, lengths, room) depth 30 fits 100000) (search lengths) (search constraint_env_idx_of) (search room))
+returns c = sym (put_next c.put-2.ensures _ _ 0 (constraint_wrapper_cols ++ constraint_tx_init ++ eval_packed_generic_body ++ constraint_ext_lines) constraint_env_idx (search (put_next, put_of, joins, constraint_wrapper_cols_of, lengths, room) depth 30 fits 100000) (search lengths) (search constraint_env_idx_of) (search room))

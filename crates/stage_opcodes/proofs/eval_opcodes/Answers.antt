@@ -16,26 +16,19 @@ room : (c : Start) → 159 ≤ length c.args.out.now
 room c = omega (arith, c.requires.room)
 
 pub eval_packed_generic-requires : goal.eval_packed_generic-requires
-eval_packed_generic-requires c =
-    (c.requires.rows, (c.factors-factors.ensures, omega (arith, c.requires.room, c.out-1.given)))
+eval_packed_generic-requires c = record {
+  rows = c.requires.rows;
+  factors = c.factors-factors.ensures;
+  room = omega (arith, c.requires.room, c.out-1.given);
+}
 
 pub eval_packed_generic-requires-2 : goal.eval_packed_generic-requires-2
-eval_packed_generic-requires-2 c =
-    (
-      c.requires.rows,
-      (
-        c.requires.z,
-        (
-          c.factors-factors.ensures,
-          omega (
-            arith,
-            c.requires.room,
-            c.out-1.given,
-            c.out-2-1.given,
-          ),
-        ),
-      ),
-    )
+eval_packed_generic-requires-2 c = record {
+  rows = c.requires.rows;
+  z = c.requires.z;
+  factors = c.factors-factors.ensures;
+  room = omega (arith, c.requires.room, c.out-1.given, c.out-2-1.given);
+}
 
 pub returns : goal.returns
 unfolding opcodes

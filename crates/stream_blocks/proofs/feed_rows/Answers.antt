@@ -13,40 +13,36 @@ use Rattle.stream_model.proofs.Fed.{Fed, fed_none, fed_more, fed_still}
 use Rattle.stream_blocks.proofs.feed_rows.Goals as goal
 
 pub loop-i-init : goal.loop-i-init
-loop-i-init c = (omega arith, refl, fed_none _ _ _ _ c.requires)
+loop-i-init c = (omega arith, refl, fed_none _ _ _ _ c.requires.sound)
 
 pub returns-then-not-state : goal.returns-then-not-state
 returns-then-not-state c =
-    (
-      record { state_is = c.loop-i.invariant.2.is; put = c.loop-i.invariant.2.put },
-      (
-        c.loop-i.invariant.2.onward,
-        (
-          omega arith,
+    record {
+      gives = record { state_is = c.loop-i.invariant.2.is; put = c.loop-i.invariant.2.put };
+      onward = c.loop-i.invariant.2.onward;
+      within = omega arith;
+      some =
           λ run some room.
               let n : c.loop-i.i ≡ 0 → ⊥ =
               λ e. false≢true (sym (not-true _ c.if-not-state.true) ∙ ap (λ (t : State). t.running) (fed_still _ _ _ _ c.loop-i.invariant.2 e).0 ∙ run)
-              in omega arith,
-        ),
-      ),
-    )
+              in omega arith;
+    }
 
 pub overflow_sub-out : goal.overflow_sub-out
 overflow_sub-out c = let f = c.loop-i.invariant.2 in put-within (omega arith) f.put
 
 pub returns-then-out-next-lt-PAIR_BYTES : goal.returns-then-out-next-lt-PAIR_BYTES
 returns-then-out-next-lt-PAIR_BYTES c =
-    (
-      record { state_is = c.loop-i.invariant.2.is; put = c.loop-i.invariant.2.put },
-      (
-        c.loop-i.invariant.2.onward,
-        (omega arith, λ run some room. let n : c.loop-i.i ≡ 0 → ⊥ = λ e. omega (arith, (fed_still _ _ _ _ c.loop-i.invariant.2 e).1) in omega arith),
-      ),
-    )
+    record {
+      gives = record { state_is = c.loop-i.invariant.2.is; put = c.loop-i.invariant.2.put };
+      onward = c.loop-i.invariant.2.onward;
+      within = omega arith;
+      some = λ run some room. let n : c.loop-i.i ≡ 0 → ⊥ = λ e. omega (arith, (fed_still _ _ _ _ c.loop-i.invariant.2 e).1) in omega arith;
+    }
 
 pub feed-step-requires : goal.feed-step-requires
 feed-step-requires c =
-    (omega (arith, put-within (omega arith) c.loop-i.invariant.2.put), c.loop-i.invariant.2.onward.sound)
+    record { room = omega (arith, put-within (omega arith) c.loop-i.invariant.2.put); sound = c.loop-i.invariant.2.onward.sound }
 
 pub loop-i-preserved : goal.loop-i-preserved
 loop-i-preserved c =
@@ -58,4 +54,9 @@ loop-i-preserved c =
 
 pub returns : goal.returns
 returns c =
-    (record { state_is = c.loop-i.invariant.2.is; put = c.loop-i.invariant.2.put }, (c.loop-i.invariant.2.onward, (omega arith, λ run some room. omega arith)))
+    record {
+      gives = record { state_is = c.loop-i.invariant.2.is; put = c.loop-i.invariant.2.put };
+      onward = c.loop-i.invariant.2.onward;
+      within = omega arith;
+      some = λ run some room. omega arith;
+    }

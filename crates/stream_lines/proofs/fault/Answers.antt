@@ -1,5 +1,5 @@
 -- `stream_lines::fault` meets its contract.
-use Prim.Native.Nat.{◌≤◌}
+use Prim.Native.Nat.{ℕ, ◌≤◌, ◌<◌}
 use native.Mathlib.Omega.{arith}
 use lib.ListN.{length}
 use borrow.Author.Rules.{rules}
@@ -9,25 +9,24 @@ use Rattle.text.proofs.Puts.{then}
 use Rattle.stream_text.specs.Faults.{fault_line}
 use Rattle.stream_text.proofs.Short.{signed_short}
 use Rattle.stream_lines.proofs.fault.Goals as goal
-use Rattle.stream_lines.proofs.fault.Goals.{Start}
 
 -- how long the line's numbers are at most
-pair-digits : (s : Start) → length (decimal_of s.args.pair) ≤ 5
-pair-digits s = decimal_below 4 s.args.pair (omega (arith, s.requires.1.0))
+pair-digits : (pair : ℕ) → pair < 65536 → length (decimal_of pair) ≤ 5
+pair-digits pair h = decimal_below 4 pair (omega arith)
 
-number_digits : (s : Start) → length (decimal_of s.args.number) ≤ 3
-number_digits s = decimal_below 2 s.args.number s.requires.1.1.0
+number_digits : (number : ℕ) → number < 1000 → length (decimal_of number) ≤ 3
+number_digits number h = decimal_below 2 number h
 
 pub two_numbers-next-requires : goal.two_numbers-next-requires
-two_numbers-next-requires c = omega (arith, c.requires.room, pair-digits c.before.before)
+two_numbers-next-requires c = omega (arith, c.requires.room, pair-digits c.args.pair c.requires.pair)
 
-pub signed_decimal-next-requires : goal.signed_decimal-next-requires
-signed_decimal-next-requires c =
-    omega (arith, c.two_numbers-next.ensures.next, pair-digits c.before.before.before.before.before.before, number_digits c.before.before.before.before.before.before)
+pub signed_decimal-next-requires-clause-room : goal.signed_decimal-next-requires-clause-room
+signed_decimal-next-requires-clause-room c =
+    omega (arith, c.two_numbers-next.ensures.next, pair-digits c.args.pair c.requires.pair, number_digits c.args.number c.requires.number)
 
 pub put_byte-requires : goal.put_byte-requires
 put_byte-requires c =
-    omega (arith, c.two_numbers-next.ensures.next, c.signed_decimal-next.ensures.count, pair-digits c.before.before.before.before.before.before.before.before.before.before, number_digits c.before.before.before.before.before.before.before.before.before.before, signed_short c.args.value)
+    omega (arith, c.two_numbers-next.ensures.next, c.signed_decimal-next.ensures.count, pair-digits c.args.pair c.requires.pair, number_digits c.args.number c.requires.number, signed_short c.args.value)
 
 pub returns : goal.returns
 unfolding fault_line

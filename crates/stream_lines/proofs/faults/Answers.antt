@@ -16,6 +16,7 @@ use Rattle.stream_text.specs.Faults.{faults_of_pair}
 use Rattle.algebra.proofs.Lists.{all_at}
 use Rattle.stream_lines.proofs.Laws.{none_yet, skipped, more, room-left}
 use Rattle.stream_lines.proofs.faults.Goals as goal
+use Rattle.stream_lines.proofs.faults.Goals.{then-listed, else-listed}
 
 pub loop-i-init : goal.loop-i-init
 loop-i-init c =
@@ -25,7 +26,7 @@ pub fault-next-requires : goal.fault-next-requires
 fault-next-requires c =
     let b = all_at (λ v. v < p) 0 (lit< tt) c.args.values.now c.requires.below c.loop-i.i in
     let r = room-left c.args.pair c.args.values.now c.loop-i.i (omega arith) c.requires.pair c.requires.few in
-    (omega (arith, c.loop-i.invariant.1.count), (c.requires.pair, (omega arith, b)))
+    record { room = omega (arith, c.loop-i.invariant.1.count); pair = c.requires.pair; number = omega arith; below = b }
 
 pub loop-i-preserved : goal.loop-i-preserved
 loop-i-preserved c =
@@ -33,10 +34,12 @@ loop-i-preserved c =
     let v = get_or c.args.values.now c.loop-i.i 0 in
     let line = more c.args.pair c.args.values.now c.loop-i.i (omega arith) in
     let none = skipped c.args.pair c.args.values.now c.loop-i.i (omega arith) in
-    ⊎_elim
-    (λ w. let n : v ≢ 0 = λ z. false≢true (rw z at w.0.taken) in
-    rw (w.5, w.6, line n) (search rules, then h c.loop-i.invariant.1 w.2.ensures))
-    (λ w. let z : v ≡ 0 = eqb-true v 0 (not-false _ w.0.left) in rw (w.1, w.2, none z) c.loop-i.invariant) c.if-listed.branch
+    elim c.if-listed.branch [
+      then-listed w ↦
+        (let n : v ≢ 0 = w.if-listed.true in
+        rw (w.out-is, w.next-is, line n) (search rules, then h c.loop-i.invariant.1 w.fault-next.ensures))
+      | else-listed w ↦ (let z : v ≡ 0 = w.if-listed.false in rw (w.out-is, w.next-is, none z) c.loop-i.invariant)
+    ]
 
 pub returns : goal.returns
 returns c =

@@ -6,12 +6,12 @@ use Rattle.stream_lines.proofs.pair.Goals as goal
 
 pub faults-requires : goal.faults-requires
 faults-requires c =
-    (omega (arith, c.requires), c.requires.1)
+    record { room = omega (arith, c.requires); few = c.requires.few; pair = c.requires.index; below = c.requires.below }
 
 pub returns-in-Counts : goal.returns-in-Counts
 returns-in-Counts c =
-    rw c.enum_told-1.given.1 (counted _ _ c.count_nonzero-found.ensures c.line.ensures)
+    rw c.in-Counts.is (counted _ _ c.count_nonzero-found.ensures c.line.ensures)
 
 pub returns-in-Faults : goal.returns-in-Faults
 returns-in-Faults c =
-    rw c.enum_told-in-Faults-1.given.1 c.faults.ensures
+    rw c.in-Faults.is c.faults.ensures

@@ -8,7 +8,8 @@ use Rattle.stream_lines.proofs.two_numbers.Goals as goal
 
 pub returns : goal.returns
 returns c =
-    let h : c.args.at ≤ length c.args.out.now = omega (arith, c.requires) in (
-      then h (then h (then h c.put_decimal-next.ensures.digits c.put_byte-next.ensures) c.put_decimal-next-2.ensures.digits) c.put_byte.ensures,
-      omega (arith, c.put_decimal-next.ensures.digits.count, c.put_byte-next.ensures.count, c.put_decimal-next-2.ensures.digits.count, c.put_byte.ensures.count),
-    )
+    let h : c.args.at ≤ length c.args.out.now = omega (arith, c.requires) in
+    record {
+      numbers = then h (then h (then h c.put_decimal-next.ensures.digits c.put_byte-next.ensures) c.put_decimal-next-2.ensures.digits) c.put_byte.ensures;
+      next = omega (arith, c.put_decimal-next.ensures.digits.count, c.put_byte-next.ensures.count, c.put_decimal-next-2.ensures.digits.count, c.put_byte.ensures.count);
+    }

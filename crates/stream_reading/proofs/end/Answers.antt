@@ -16,7 +16,7 @@ slice_bounds-print-end-2 c = (put_counts (omega arith) c.feed-step.ensures.gives
 
 pub returns : goal.returns
 returns c =
-    (
-      c.print.ensures.sound,
-      kept-ended c.print.ensures (ap (λ (t : State). t.running) c.feed-step.ensures.gives.state_is ∙ short_ends _ _ _ c.requires.part),
-    )
+    record {
+      sound = c.print.ensures.sound;
+      ended = kept-ended c.print.ensures (ap (λ (t : State). t.running) c.feed-step.ensures.gives.state_is ∙ short_ends _ _ _ c.requires.part);
+    }

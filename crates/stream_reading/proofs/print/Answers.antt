@@ -3,8 +3,8 @@ use mathlib.Core.Bool.{false≢true}
 use borrow.Author.Rules.{rules}
 use Rattle.stream_reading.proofs.print.Goals as goal
 
-pub returns-then-not-write_all : goal.returns-then-not-write_all
-returns-then-not-write_all c =
+pub returns-then-is_err : goal.returns-then-is_err
+returns-then-is_err c =
     record {
       sound = record { masks = c.requires.masks; first = c.requires.first; previous = c.requires.previous; few = c.requires.few };
       same = λ e. absurd (false≢true e);

@@ -5,7 +5,6 @@ use native.Mathlib.Omega.{arith}
 use lib.ListN.{length}
 use borrow.Author.Rules.{rules}
 use Rattle.io.proofs.Counting.{prefix_len_of_le}
-use Rattle.stream_reading.proofs.Laws.{fits_bytes}
 use Rattle.stream_reading.proofs.read_full.Goals as goal
 
 pub loop-n-init : goal.loop-n-init
@@ -13,22 +12,22 @@ loop-n-init c = (omega arith, refl)
 
 pub returns-then-got-eq0 : goal.returns-then-got-eq0
 returns-then-got-eq0 c =
-    prefix_len_of_le _ _ (omega (arith, c.bytes-1.given.1))
+    prefix_len_of_le _ _ (omega arith)
 
 pub overflow_add-n : goal.overflow_add-n
 overflow_add-n c =
-    let f = fits_bytes _ _ _ c.got-1.given.1 c.read_Some.ensures in
-    omega (arith, f.0, c.bytes-1.given.0, c.read_some-arg-1.given.2)
+    let f = c.in-Bytes.ensures in
+    omega (arith, f.0)
 
 pub loop-n-smaller : goal.loop-n-smaller
 loop-n-smaller c =
-    let f = fits_bytes _ _ _ c.got-1.given.1 c.read_Some.ensures in
-    omega (arith, f.0, c.bytes-1.given.0, c.bytes-1.given.1, c.read_some-arg-1.given.2)
+    let f = c.in-Bytes.ensures in
+    omega (arith, f.0)
 
 pub loop-n-preserved : goal.loop-n-preserved
 loop-n-preserved c =
-    let f = fits_bytes _ _ _ c.got-1.given.1 c.read_Some.ensures in
-    (omega (arith, f.0, c.bytes-1.given.0, c.bytes-1.given.1, c.read_some-arg-1.given.2), omega (arith, c.bytes-1.given.1))
+    let f = c.in-Bytes.ensures in
+    (omega (arith, f.0), omega arith)
 
 pub returns : goal.returns
 returns c = prefix_len_of_le _ _ c.loop-n.invariant.0

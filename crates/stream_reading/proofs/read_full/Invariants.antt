@@ -4,7 +4,6 @@ use native.Mathlib.Omega.{arith}
 use lib.ListN.{length}
 use borrow.Author.Rules.{rules}
 use Rattle.io.proofs.Counting.{prefix_len_of_le}
-use Rattle.stream_reading.proofs.Laws.{fits_bytes}
 use Rattle.stream_reading.proofs.read_full.Given as goal
 
 abbrev pub invariant-loop-n : goal.invariant-loop-n

@@ -11,7 +11,7 @@ pub loop-reading-init : goal.loop-reading-init
 loop-reading-init c = (refl, refl, record { sound = c.requires; room = omega arith })
 
 pub turn-reading-requires : goal.turn-reading-requires
-turn-reading-requires c = (c.loop-reading.invariant.0, (c.loop-reading.invariant.1, c.loop-reading.invariant.2))
+turn-reading-requires c = record { buffer = c.loop-reading.invariant.0; room = c.loop-reading.invariant.1; ready = c.loop-reading.invariant.2 }
 
 pub loop-reading-smaller : goal.loop-reading-smaller
 loop-reading-smaller c =

@@ -13,7 +13,7 @@ returns-then-s-eq0 c = rw (eq-eqb _ _ c.if-s-eq0.true) (record { state_is = refl
 
 pub pair_text-next-requires : goal.pair_text-next-requires
 pair_text-next-requires c =
-    (c.requires.room, (c.requires.sound, (c.requires.row, (lit< tt, search rules))))
+    record { room = c.requires.room; sound = c.requires.sound; row = c.requires.row; weight = lit< tt; rows = search rules }
 
 pub returns : goal.returns
 unfolding accept_of

@@ -13,7 +13,7 @@ returns-then-s-eq0 c =
 
 pub pair_text-next-requires : goal.pair_text-next-requires
 pair_text-next-requires c =
-    (c.requires.room, (c.requires.sound, (search rules, (lit< tt, search rules))))
+    record { room = c.requires.room; sound = c.requires.sound; row = search rules; weight = lit< tt; rows = search rules }
 
 pub returns : goal.returns
 unfolding end_of

@@ -13,16 +13,16 @@ pub eval_packed_generic-requires : goal.eval_packed_generic-requires
 eval_packed_generic-requires c =
     let k = c.requires.sound in
     let b = first_below (c.args.s.rows - 1) _ c.first_weight.ensures in
-    (record { local = k.previous; next = c.requires.row }, (k.masks, (c.requires.weight, (b, le_refl 226))))
+    record { rows = record { local = k.previous; next = c.requires.row }; masks = k.masks; z = c.requires.weight; f = b; room = le_refl 226 }
 
 pub pair-requires : goal.pair-requires
 pair-requires c =
     let k = c.requires.sound in
-    let a = pair_asks c.args.s c.args.next.now c.args.z-last _ c.first_weight.ensures _ refl c.eval_packed_generic.ensures
+    let a = pair_asks c.args.s c.args.next.now c.args.z_last _ c.first_weight.ensures _ refl c.eval_packed_generic.ensures
     k c.requires.row c.requires.weight in
-    (search rules, (a.0, (omega (arith, k.few), a.1)))
+    record { room = search rules; few = a.0; index = omega (arith, k.few); below = a.1 }
 
 pub returns : goal.returns
 returns c =
-    text_of c.args.s c.args.next.now c.args.z-last _ c.first_weight.ensures _ refl c.eval_packed_generic.ensures
+    text_of c.args.s c.args.next.now c.args.z_last _ c.first_weight.ensures _ refl c.eval_packed_generic.ensures
     (text_by c.args.text) c.pair.ensures

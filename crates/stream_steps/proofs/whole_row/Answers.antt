@@ -17,7 +17,7 @@ returns-then-not-canonical c =
 
 pub accept-requires : goal.accept-requires
 accept-requires c =
-    (c.requires.room, (c.requires.sound, (accepted-row _ (search rules) (kept c.canonical.ensures c.if-not-canonical.false), search rules)))
+    record { room = c.requires.room; sound = c.requires.sound; row = accepted-row _ (search rules) (kept c.canonical.ensures c.if-not-canonical.false); few = search rules }
 
 pub returns : goal.returns
 unfolding row_of

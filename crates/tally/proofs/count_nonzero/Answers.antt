@@ -1,11 +1,11 @@
 -- `tally::count_nonzero` meets its contract.
-use mathlib.Core.Logic.{⊎_elim}
 use Prim.Native.Nat.{◌-◌, ◌<◌}
 use native.Mathlib.Omega.{arith}
 use lib.ListN.{length}
 use borrow.Author.Rules.{rules}
 use Rattle.tally.proofs.Laws.{Counted, counted_none, counted_all, skipped, found, more}
 use Rattle.tally.proofs.count_nonzero.Goals as goal
+use Rattle.tally.proofs.count_nonzero.Goals.{then-values-i-ne0+then-lowest-eq0, then-values-i-ne0+else-lowest-eq0, else-values-i-ne0}
 
 pub loop-i-init : goal.loop-i-init
 loop-i-init c = counted_none _
@@ -13,10 +13,10 @@ loop-i-init c = counted_none _
 pub loop-i-preserved : goal.loop-i-preserved
 loop-i-preserved c =
     let h : c.loop-i.i < length c.args.values.now = omega arith in
-    ⊎_elim (λ w. rw (w.2, w.3) (found _ _ _ _ c.loop-i.invariant h w.0.taken w.1.taken))
-    (⊎_elim (λ w. rw (w.2, w.3) (more _ _ _ _ c.loop-i.invariant h w.0.taken w.1.left))
-    (λ w. rw (w.1, w.2) (skipped _ _ _ _ c.loop-i.invariant h w.0.left)))
-    c.if-values-i-ne0.branch
+    elim c.if-values-i-ne0.branch [
+      then-values-i-ne0+then-lowest-eq0 w ↦ rw (w.count-is, w.lowest-is) (found _ _ _ _ c.loop-i.invariant h w.if-values-i-ne0.true w.if-lowest-eq0.true)
+    | then-values-i-ne0+else-lowest-eq0 w ↦ rw (w.count-is, w.lowest-is) (more _ _ _ _ c.loop-i.invariant h w.if-values-i-ne0.true w.if-lowest-eq0.false)
+    | else-values-i-ne0 w ↦ rw (w.count-is, w.lowest-is) (skipped _ _ _ _ c.loop-i.invariant h w.if-values-i-ne0.false) ]
 
 pub returns : goal.returns
 returns c =

@@ -5,6 +5,7 @@ use native.Mathlib.Omega.{arith}
 use lib.ListN.{length}
 use borrow.Author.Rules.{rules}
 use Rattle.table.specs.Table.{pair_values}
+use Rattle.parts.proofs.Written.{put_of, put_next}
 use Rattle.cpu.proofs.Whole.{table_is, stages}
 use Rattle.cpu.proofs.stages.eval_packed_generic.Goals as goal
 use Rattle.cpu.proofs.stages.eval_packed_generic.Goals.{Start}
@@ -13,9 +14,13 @@ room : (c : Start) → 0 ≤ length c.args.out.now
 room c = omega arith
 
 pub eval_opcodes-requires : goal.eval_opcodes-requires
-eval_opcodes-requires c =
-    (c.requires.rows, (c.requires.masks, (c.requires.z, omega (arith, c.requires.room, c.out-1.given, c.out-2-1.given, c.out-3-1.given))))
+eval_opcodes-requires c = record {
+  rows = c.requires.rows;
+  masks = c.requires.masks;
+  z = c.requires.z;
+  room = omega (arith, c.requires.room, c.out-1.given, c.out-2-1.given, c.out-3-1.given);
+}
 
 pub returns : goal.returns
 unfolding pair_values
-returns c = rw table_is (sym (search (stages, room) depth 30 fits 100000))
+returns c = rw table_is (sym (search (put_next, put_of, stages, room) depth 30 fits 100000))

@@ -11,16 +11,16 @@ use Rattle.cpu_after_call_sc.proofs.after_call_sc.call_sc_ctx_regs.Statement.{st
 use Rattle.cpu_after_call_sc.proofs.after_call_sc.call_sc_ctx_regs.Tie as tie
 
 local-row : (c : tie.Start) → Row c.args.lv.now
-local-row c = c.requires.rows.local
+local-row c = c.requires.0.local
 
 next_row : (c : tie.Start) → Row c.args.nv.now
-next_row c = c.requires.rows.next
+next_row c = c.requires.0.next
 
 factor : (c : tie.Start) → ValuesOf row_factors c.args.lv.now c.args.nv.now c.args.factors.now
-factor c = shared_of c.requires.factors _ tt
+factor c = shared_of c.requires.1 _ tt
 
 factor-place : (c : tie.Start) → PlacesOf row_factors c.args.factors.now
-factor-place c = shared_place c.requires.factors
+factor-place c = shared_place c.requires.1
 
 returns : tie.Need-returns
 unfolding call_sc_ctx_regs

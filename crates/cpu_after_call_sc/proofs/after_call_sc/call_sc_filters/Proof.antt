@@ -12,13 +12,13 @@ use Rattle.cpu_after_call_sc.proofs.after_call_sc.call_sc_filters.Statement.{sta
 use Rattle.cpu_after_call_sc.proofs.after_call_sc.call_sc_filters.Tie as tie
 
 local-row : (c : tie.Start) → Row c.args.lv.now
-local-row c = c.requires.row
+local-row c = c.requires.0
 
 factor : (c : tie.Start) → ValuesOf row_factors c.args.lv.now [] c.args.factors.now
-factor c = shared_of c.requires.factors _ tt
+factor c = shared_of c.requires.1 [] tt
 
 factor-place : (c : tie.Start) → PlacesOf row_factors c.args.factors.now
-factor-place c = shared_place c.requires.factors
+factor-place c = shared_place c.requires.1
 
 returns : tie.Need-returns
 unfolding values call_sc_filters

@@ -12,16 +12,16 @@ use Rattle.cpu_call_sc.proofs.call_sc.call_sc_addresses.Statement.{statement}
 use Rattle.cpu_call_sc.proofs.call_sc.call_sc_addresses.Tie as tie
 
 local-row : (c : tie.Start) → Row c.args.lv.now
-local-row c = c.requires.rows.local
+local-row c = c.requires.0.local
 
 next_row : (c : tie.Start) → Row c.args.nv.now
-next_row c = c.requires.rows.next
+next_row c = c.requires.0.next
 
 main-line : (c : tie.Start) → ValueOf call_sc_main_line c.args.lv.now c.args.nv.now (get_or c.args.factors.now 0 0)
-main-line c = shared_of c.requires.factors _ tt 0 _ refl
+main-line c = shared_of c.requires.1 _ tt 0 _ refl
 
 factor-place : (c : tie.Start) → PlacesOf row_factors c.args.factors.now
-factor-place c = shared_place c.requires.factors
+factor-place c = shared_place c.requires.1
 
 returns : tie.Need-returns
 unfolding values each call_sc_addresses

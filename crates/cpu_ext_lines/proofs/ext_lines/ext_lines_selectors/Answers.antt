@@ -1,6 +1,7 @@
 -- `cpu_ext_lines::ext_lines::ext_lines_selectors` meets its contract.
 use Prim.Native.Nat.{◌≤◌, ◌<◌, ◌-◌}
-use mathlib.Core.Path.{◌≡◌, refl, sym, ◌∙◌}
+use mathlib.Core.Path.{◌≡◌, refl, sym, ap₂, ◌∙◌}
+use mathlib.Core.List.{[]}
 use native.Mathlib.Omega.{arith}
 use lib.ListN.{length, take, get_or, length-set}
 use Rattle.residue.specs.Residues.{sub_p, mul_p}
@@ -32,7 +33,7 @@ sub-requires c = search (both, part-below, local-row, next_row)
 pub loop-i-preserved : goal.loop-i-preserved
 loop-i-preserved c =
     let h : c.loop-i.i < length c.loop-i.out = omega arith in
-    (omega arith, simp length-set (omega arith), up_to-step _ _ _ _ h c.loop-i.invariant.2 (sym (search (mul_of, sub_of))))
+    (omega arith, simp length-set (omega arith), up_to-step _ _ _ _ h c.loop-i.invariant.2 (c.mul.ensures.value ∙ ap₂ mul_p refl c.sub.ensures.value))
 
 pub returns : goal.returns
 unfolding ext_lines_selectors
@@ -41,4 +42,4 @@ returns c =
     filled NUM-OP-SELECTOR _ _ c.loop-i.invariant.1 (rw e at c.loop-i.invariant.2)
     ∙ sym
     (each-is _ NUM-OP-SELECTOR _ _
-    (λ i h. kept_of _ _ _ _ _ (nv COL-IS-EXT-LINE) COL-S-SIMPLE-ARITHMATIC-OP NUM-OP-SELECTOR i h (search exprs)))
+    (λ i h. kept_of [] c.args.lv.now c.args.nv.now 0 0 (nv COL-IS-EXT-LINE) COL-S-SIMPLE-ARITHMATIC-OP NUM-OP-SELECTOR i {v = get_or c.args.nv.now COL-IS-EXT-LINE 0} h (search exprs)))

@@ -12,13 +12,13 @@ use Rattle.cpu_flow.proofs.env_unchanged.constraint_env_unchanged_pc.Statement.{
 use Rattle.cpu_flow.proofs.env_unchanged.constraint_env_unchanged_pc.Tie as tie
 
 local-row : (c : tie.Start) → Row c.args.lv.now
-local-row c = c.requires.rows.local
+local-row c = c.requires.0.local
 
 next_row : (c : tie.Start) → Row c.args.nv.now
-next_row c = c.requires.rows.next
+next_row c = c.requires.0.next
 
-clk : (c : tie.Start) → ValueOf clk_kept c.args.lv.now c.args.nv.now c.args.clk-kept
-clk c = shared_of c.requires.clk _ refl 0 _ refl
+clk : (c : tie.Start) → ValueOf clk_kept c.args.lv.now c.args.nv.now c.args.clk_kept
+clk c = shared_of c.requires.1 _ refl 0 _ refl
 
 returns : tie.Need-returns
 unfolding values constraint_env_unchanged_pc

@@ -10,10 +10,10 @@ use Rattle.cpu_opcode_selector.proofs.selectors.cal_opcode.Statement.{statement}
 use Rattle.cpu_opcode_selector.proofs.selectors.cal_opcode.Tie as tie
 
 row : (c : tie.Start) → Row c.args.lv.now
-row c = c.requires.row
+row c = c.requires.0
 
 masks : (c : tie.Start) → Masks c.args.masks.now
-masks c = c.requires.masks
+masks c = c.requires.1
 
 returns : tie.Need-returns
 returns c = (sym (opcode_parts _ ∙ search (exprs, helpers, part_length, row, tt)), search helpers_below)

@@ -9,10 +9,10 @@ use Rattle.cpu_opcode_selector.proofs.selectors.opcode_products.Statement.{state
 use Rattle.cpu_opcode_selector.proofs.selectors.opcode_products.Tie as tie
 
 row : (c : tie.Start) → Row c.args.lv.now
-row c = c.requires.row
+row c = c.requires.0
 
 masks : (c : tie.Start) → Masks c.args.masks.now
-masks c = c.requires.masks
+masks c = c.requires.1
 
 returns : tie.Need-returns
 unfolding values opcode_products

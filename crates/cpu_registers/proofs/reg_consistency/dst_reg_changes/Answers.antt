@@ -1,20 +1,22 @@
 -- `cpu_registers::reg_consistency::dst_reg_changes` meets its contract.
-use Prim.Native.Nat.{◌≤◌, ◌<◌, ◌-◌}
-use mathlib.Core.Path.{◌≡◌, refl, sym, ap₂, ◌∙◌}
+use Prim.Native.Nat.{ℕ, ◌≤◌, ◌<◌, ◌-◌}
+use mathlib.Core.Path.{◌≡◌, refl, sym, ap, ap₂, ◌∙◌}
+use mathlib.Core.List.{List, []}
 use native.Mathlib.Omega.{arith}
 use lib.ListN.{length, take, get_or, length-set}
-use Rattle.algebra.specs.Expr.{◌⊖◌}
-use Rattle.residue.specs.Residues.{sub_p, mul_p}
+use Rattle.algebra.specs.Expr.{var, ◌⊖◌, ◌⊗◌, eval}
+use Rattle.residue.specs.Residues.{residues, sub_p, mul_p}
 use Rattle.residue.proofs.Laws.{mul_p_word}
+use Rattle.table.specs.Columns.{COL-S-DST-START, COL-REGS-START}
 use Rattle.table.specs.Rows.{Row}
+use Rattle.table.specs.Cells.{cells, z_last}
 use Rattle.table.specs.Entry.{𝟙}
 use Rattle.table.specs.CpuStark.{multi_reg_change, dst_reg_changes}
-use Rattle.table.proofs.Called.{exprs}
 use Rattle.table.proofs.Rows.{places, part-below}
 use Rattle.parts.specs.Parts.{up_to}
 use Rattle.parts.proofs.Laws.{filled, up_to-none, up_to-step, each-is}
 use Rattle.cpu_registers.proofs.Laws.{kept_of}
-use Rattle.cpu_registers.proofs.Calls.{multi_reg_change_of, multi_reg_change-below}
+use Rattle.cpu_registers.proofs.Calls.{multi_reg_change-below}
 use Rattle.cpu_registers.proofs.reg_consistency.dst_reg_changes.Goals as goal
 use Rattle.cpu_registers.proofs.reg_consistency.dst_reg_changes.Goals.{Start}
 
@@ -23,6 +25,12 @@ local-row c = c.requires.rows.local
 
 next_row : (c : Start) → Row c.args.nv.now
 next_row c = c.requires.rows.next
+
+-- what the first factor comes to
+weight : (l n : List ℕ) (z : ℕ) {a b w : ℕ} → w ≡ mul_p b z → b ≡ sub_p 1 a → a ≡ eval residues (cells [] l [] 0 0) multi_reg_change →
+    eval residues (cells [] l n z 0) ((𝟙 ⊖ multi_reg_change) ⊗ var z_last) ≡ w
+unfolding eval sub_p multi_reg_change
+weight l n z p q r = sym (p ∙ ap (λ (t : ℕ). mul_p t z) (q ∙ ap (sub_p 1) r))
 
 pub multi_reg_change-requires : goal.multi_reg_change-requires
 multi_reg_change-requires c = search local-row
@@ -50,4 +58,4 @@ unfolding dst_reg_changes
 returns c =
     let e : c.loop-i.i ≡ 9 = omega arith in
     filled 9 _ _ c.loop-i.invariant.1 (rw e at c.loop-i.invariant.2)
-    ∙ sym (each-is _ 9 _ _ (λ i h. kept_of _ _ _ _ _ _ (𝟙 ⊖ multi_reg_change) _ _ i (omega arith) (search (exprs, multi_reg_change_of))))
+    ∙ sym (each-is _ 9 _ _ (λ i h. kept_of [] c.args.lv.now c.args.nv.now c.args.z_last 0 c.mul-one_reg_change.result (𝟙 ⊖ multi_reg_change) COL-S-DST-START COL-REGS-START i (omega arith) (weight _ _ _ c.mul-one_reg_change.ensures.value c.sub.ensures.value c.multi_reg_change.ensures.value)))

@@ -9,10 +9,10 @@ use Rattle.cpu_registers.proofs.reg_consistency.fp_consistency.Statement.{statem
 use Rattle.cpu_registers.proofs.reg_consistency.fp_consistency.Tie as tie
 
 local-row : (c : tie.Start) → Row c.args.lv.now
-local-row c = c.requires.rows.local
+local-row c = c.requires.0.local
 
 next_row : (c : tie.Start) → Row c.args.nv.now
-next_row c = c.requires.rows.next
+next_row c = c.requires.0.next
 
 returns : tie.Need-returns
 unfolding values fp_consistency

@@ -10,10 +10,10 @@ use Rattle.cpu_simple_arithmatic_op.proofs.simple_arithmatic_op.eval_packed_gene
 use Rattle.cpu_simple_arithmatic_op.proofs.simple_arithmatic_op.eval_packed_generic.Tie as tie
 
 local-row : (c : tie.Start) → Row c.args.lv.now
-local-row c = c.requires.row
+local-row c = c.requires.0
 
 all-masks : (c : tie.Start) → Masks c.args.masks.now
-all-masks c = c.requires.masks
+all-masks c = c.requires.1
 
 returns : tie.Need-returns
 unfolding values simple_arithmatic_op

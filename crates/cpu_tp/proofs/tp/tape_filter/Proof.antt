@@ -18,13 +18,13 @@ use Rattle.cpu_tp.proofs.tp.tape_filter.Statement.{statement}
 use Rattle.cpu_tp.proofs.tp.tape_filter.Tie as tie
 
 local-row : (c : tie.Start) → Row c.args.lv.now
-local-row c = c.requires.row
+local-row c = c.requires.0
 
 factor : (c : tie.Start) → ValuesOf row_factors c.args.lv.now [] c.args.factors.now
-factor c = shared_of c.requires.factors _ tt
+factor c = shared_of c.requires.1 [] tt
 
 factor-place : (c : tie.Start) → PlacesOf row_factors c.args.factors.now
-factor-place c = shared_place c.requires.factors
+factor-place c = shared_place c.requires.1
 
 -- the table has the selectors of this factor the other way about
 turned : (env : Cell → ℕ) {x : ℕ} → eval residues env tape_ext_line ≡ x →

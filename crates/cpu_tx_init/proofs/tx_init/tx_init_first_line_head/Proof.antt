@@ -9,7 +9,7 @@ use Rattle.cpu_tx_init.proofs.tx_init.tx_init_first_line_head.Statement.{stateme
 use Rattle.cpu_tx_init.proofs.tx_init.tx_init_first_line_head.Tie as tie
 
 local-row : (c : tie.Start) → Row c.args.lv.now
-local-row c = c.requires.row
+local-row c = c.requires.0
 
 returns : tie.Need-returns
 unfolding values tx_init_first_line_head

@@ -12,18 +12,18 @@ use Rattle.cpu_wrapper.proofs.wrapper.constraint_wrapper_cols.Statement.{stateme
 use Rattle.cpu_wrapper.proofs.wrapper.constraint_wrapper_cols.Tie as tie
 
 local-row : (c : tie.Start) → Row c.args.lv.now
-local-row c = c.requires.rows.local
+local-row c = c.requires.0.local
 
 next_row : (c : tie.Start) → Row c.args.nv.now
-next_row c = c.requires.rows.next
+next_row c = c.requires.0.next
 
-length : (c : tie.Start) → ValueOf lv_ext_length c.args.lv.now c.args.nv.now c.args.ext-length
+length : (c : tie.Start) → ValueOf lv_ext_length c.args.lv.now c.args.nv.now c.args.ext_length
 unfolding lv_ext_length
-length c = shared_of c.requires.length _ tt 0 _ refl
+length c = shared_of c.requires.1.1 _ tt 0 _ refl
 
-length-below : (c : tie.Start) → c.args.ext-length < p
+length-below : (c : tie.Start) → c.args.ext_length < p
 unfolding lv_ext_length
-length-below c = shared_below c.requires.length 0 tt
+length-below c = shared_below c.requires.1.1 0 tt
 
 returns : tie.Need-returns
 unfolding values constraint_wrapper_cols

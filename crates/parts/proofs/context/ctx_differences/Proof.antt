@@ -28,8 +28,8 @@ invariant-loop f lv nv out₀ i₀ out i =
 abbrev decreases-loop : tie.decreases-loop-ctx_reg_idx
 decreases-loop f lv nv out₀ i₀ out i = 4 - i
 
-local-row : (c : tie.Start invariant-loop decreases-loop) → Row c.args.lv.now
-local-row c = c.requires.local
+local_row : (c : tie.Start invariant-loop decreases-loop) → Row c.args.lv.now
+local_row c = c.requires.local
 
 next_row : (c : tie.Start invariant-loop decreases-loop) → Row c.args.nv.now
 next_row c = c.requires.next
@@ -52,8 +52,8 @@ pub ctx_differences_spec : {M : Type 1} → statement M
 ctx_differences_spec =
     tie.close
     (tie.spec invariant-loop decreases-loop loop-holds (λ c. omega arith) (λ c. omega arith)
-    (λ c. omega arith) (λ c. omega arith) (λ c. omega arith) (λ c. omega arith) (λ c. search (places, local-row, next_row)) (λ c. search)
+    (λ c. omega arith) (λ c. omega arith) (λ c. omega arith) (λ c. omega arith) (λ c. search (places, local_row, next_row)) (λ c. search)
     (λ c. omega arith) (λ c. omega arith) (λ c. omega arith)
-    (λ c. omega arith) (λ c. omega arith) (λ c. omega arith) (λ c. omega arith) (λ c. search (places, local-row, next_row)) (λ c. search)
+    (λ c. omega arith) (λ c. omega arith) (λ c. omega arith) (λ c. omega arith) (λ c. search (places, local_row, next_row)) (λ c. search)
     (λ c. omega arith) (λ c. omega arith) (λ c. omega arith) (λ c. omega arith)
     (λ c. omega arith) (λ c. omega arith) loop-again returns)

@@ -9,16 +9,13 @@ use Rattle.parts.proofs.Written.{put_of, put_next}
 use Rattle.cpu_ext_lines.proofs.Groups.{groups}
 use Rattle.stage_context.proofs.Lengths.{lengths}
 use Rattle.stage_context.proofs.cpu_stark.constraint_ext_lines.Goals as goal
-use Rattle.stage_context.proofs.cpu_stark.constraint_ext_lines.Goals.{After-slice_known-1, Start}
+use Rattle.stage_context.proofs.cpu_stark.constraint_ext_lines.Goals.{Start}
 
 room : (c : Start) → c.args.at ≤ length c.args.out.now
 room c = omega (arith, c.requires.room)
 
-fits : (c : After-slice_known-1) → c.args.at + 25 < 2 ^ 64
-fits c = omega (arith, c.requires.room)
-
 pub overflow_add-at-3 : goal.overflow_add-at-3
-overflow_add-at-3 c = omega (arith, fits c.before.before.before.before.before.before.before.before.before.before.before.before.before.before.before.before.before.before.before.before)
+overflow_add-at-3 c = omega (arith, c.requires.room)
 
 pub put-requires-4 : goal.put-requires-4
 put-requires-4 c =

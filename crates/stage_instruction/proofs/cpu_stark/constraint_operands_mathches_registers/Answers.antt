@@ -9,16 +9,13 @@ use Rattle.parts.proofs.Written.{put_of, put_next}
 use Rattle.cpu_instruction.proofs.Groups.{groups}
 use Rattle.stage_instruction.proofs.Lengths.{lengths}
 use Rattle.stage_instruction.proofs.cpu_stark.constraint_operands_mathches_registers.Goals as goal
-use Rattle.stage_instruction.proofs.cpu_stark.constraint_operands_mathches_registers.Goals.{After-slice_known-1, Start}
+use Rattle.stage_instruction.proofs.cpu_stark.constraint_operands_mathches_registers.Goals.{Start}
 
 room : (c : Start) → c.args.at ≤ length c.args.out.now
 room c = omega (arith, c.requires.room)
 
-fits : (c : After-slice_known-1) → c.args.at + 36 < 2 ^ 64
-fits c = omega (arith, c.requires.room)
-
 pub overflow_add-at-3 : goal.overflow_add-at-3
-overflow_add-at-3 c = omega (arith, fits c.before.before.before.before.before.before.before.before.before.before.before.before.before.before.before.before.before.before.before.before)
+overflow_add-at-3 c = omega (arith, c.requires.room)
 
 pub returns : goal.returns
 unfolding constraint_operands_mathches_registers

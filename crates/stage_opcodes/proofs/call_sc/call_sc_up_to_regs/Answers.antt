@@ -9,20 +9,19 @@ use Rattle.cpu_call_sc.proofs.Groups.{groups}
 use Rattle.cpu_after_call_sc.proofs.Groups.{groups as after-groups}
 use Rattle.stage_opcodes.proofs.Lengths.{lengths}
 use Rattle.stage_opcodes.proofs.call_sc.call_sc_up_to_regs.Goals as goal
-use Rattle.stage_opcodes.proofs.call_sc.call_sc_up_to_regs.Goals.{After-slice_known-1, Start}
+use Rattle.stage_opcodes.proofs.call_sc.call_sc_up_to_regs.Goals.{Start}
 
 room : (c : Start) → c.args.at ≤ length c.args.out.now
 room c = omega (arith, c.requires.room)
 
-fits : (c : After-slice_known-1) → c.args.at + 24 < 2 ^ 64
-fits c = omega (arith, c.requires.room)
-
 pub call_sc_cleared_regs-cleared_regs-requires : goal.call_sc_cleared_regs-cleared_regs-requires
-call_sc_cleared_regs-cleared_regs-requires c =
-    (c.requires.rows, c.requires.factors)
+call_sc_cleared_regs-cleared_regs-requires c = record {
+  rows = c.requires.rows;
+  factors = c.requires.factors;
+}
 
 pub overflow_add-at-3 : goal.overflow_add-at-3
-overflow_add-at-3 c = omega (arith, fits c.before.before.before.before.before.before.before.before.before.before.before.before.before.before.before.before.before.before.before.before.before)
+overflow_add-at-3 c = omega (arith, c.requires.room)
 
 pub put-requires-4 : goal.put-requires-4
 put-requires-4 c =

@@ -10,20 +10,21 @@ use Rattle.cpu_after_call_sc.proofs.Groups.{groups}
 use Rattle.stage_opcodes.proofs.Lengths.{lengths}
 use Rattle.stage_opcodes.proofs.Joined.{joins}
 use Rattle.stage_opcodes.proofs.call_sc.eval_packed_generic.Goals as goal
-use Rattle.stage_opcodes.proofs.call_sc.eval_packed_generic.Goals.{After-slice_known-1, Start}
+use Rattle.stage_opcodes.proofs.call_sc.eval_packed_generic.Goals.{Start}
 
 room : (c : Start) → c.args.at ≤ length c.args.out.now
 room c = omega (arith, c.requires.room)
 
-fits : (c : After-slice_known-1) → c.args.at + 42 < 2 ^ 64
-fits c = omega (arith, c.requires.room)
-
 pub call_sc_up_to_regs-requires : goal.call_sc_up_to_regs-requires
-call_sc_up_to_regs-requires c =
-    (c.requires.rows, (c.requires.z, (c.requires.factors, omega (arith, c.requires.room))))
+call_sc_up_to_regs-requires c = record {
+  rows = c.requires.rows;
+  z = c.requires.z;
+  factors = c.requires.factors;
+  room = omega (arith, c.requires.room);
+}
 
 pub overflow_add-at-3 : goal.overflow_add-at-3
-overflow_add-at-3 c = omega (arith, fits c.before.before.before.before.before.before.before.before.before.before.before.before.before.before.before.before.before.before.before)
+overflow_add-at-3 c = omega (arith, c.requires.room)
 
 pub put-requires-3 : goal.put-requires-3
 put-requires-3 c =

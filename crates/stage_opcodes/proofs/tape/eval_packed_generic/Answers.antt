@@ -10,16 +10,13 @@ use Rattle.cpu_tape.proofs.Groups.{groups}
 use Rattle.cpu_tp.proofs.Groups.{groups as tp-groups}
 use Rattle.stage_opcodes.proofs.Lengths.{lengths}
 use Rattle.stage_opcodes.proofs.tape.eval_packed_generic.Goals as goal
-use Rattle.stage_opcodes.proofs.tape.eval_packed_generic.Goals.{After-slice_known-1, Start}
+use Rattle.stage_opcodes.proofs.tape.eval_packed_generic.Goals.{Start}
 
 room : (c : Start) → c.args.at ≤ length c.args.out.now
 room c = omega (arith, c.requires.room)
 
-fits : (c : After-slice_known-1) → c.args.at + 21 < 2 ^ 64
-fits c = omega (arith, c.requires.room)
-
 pub overflow_add-at-3 : goal.overflow_add-at-3
-overflow_add-at-3 c = omega (arith, fits c.before.before.before.before.before.before.before.before.before.before.before.before.before.before.before.before.before.before.before.before.before)
+overflow_add-at-3 c = omega (arith, c.requires.room)
 
 pub put-requires-4 : goal.put-requires-4
 put-requires-4 c =

@@ -1,2 +1,0 @@
-pub mod Wrapper
-pub mod CurrentRow
