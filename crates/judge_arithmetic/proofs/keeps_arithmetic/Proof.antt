@@ -8,15 +8,15 @@ use Rattle.judge_columns.proofs.Rules.{keeps, rules, chains}
 use Rattle.judge_arithmetic.proofs.keeps_arithmetic.Statement.{statement}
 use Rattle.judge_arithmetic.proofs.keeps_arithmetic.Tie as tie
 
-local-row : (c : tie.Start) → Row c.args.lv.now
-local-row c = c.requires.columns
+local_row : (c : tie.Start) → Row c.args.lv.now
+local_row c = c.requires.columns
 
 masks : (c : tie.Start) → Masks c.args.masks.now
 masks c = c.requires.opcodes
 
 returns : tie.Need-returns
 unfolding rules_L
-returns c = sym (keeps _ _ _ _ _ ∙ search (rules, chains, exprs, places, local-row, masks) depth 100 fits 100000)
+returns c = sym (keeps _ _ _ _ _ ∙ search (rules, chains, exprs, places, local_row, masks) depth 100 fits 100000)
 
 pub keeps_arithmetic_spec : {M : Type 1} → statement M
-keeps_arithmetic_spec = tie.close (search (tie.spec, returns, places, local-row, masks))
+keeps_arithmetic_spec = tie.close (search (tie.spec, returns, places, local_row, masks))

@@ -9,8 +9,8 @@ use Rattle.judge_columns.proofs.Spans.{same_of, next_zeros_of, addresses_kept_of
 use Rattle.judge_call_sc.proofs.keeps_call_sc_context.Statement.{statement}
 use Rattle.judge_call_sc.proofs.keeps_call_sc_context.Tie as tie
 
-local-row : (c : tie.Start) → Row c.args.lv.now
-local-row c = c.requires.local
+local_row : (c : tie.Start) → Row c.args.lv.now
+local_row c = c.requires.local
 
 next_row : (c : tie.Start) → Row c.args.nv.now
 next_row c = c.requires.next
@@ -20,7 +20,7 @@ rows c = c.requires
 
 returns : tie.Need-returns
 unfolding rules_N
-returns c = sym (keeps _ _ _ _ _ ∙ search (same_of, next_zeros_of, addresses_kept_of, rules, chains, exprs, places, local-row, next_row) depth 100 fits 100000)
+returns c = sym (keeps _ _ _ _ _ ∙ search (same_of, next_zeros_of, addresses_kept_of, rules, chains, exprs, places, local_row, next_row) depth 100 fits 100000)
 
 pub keeps_call_sc_context_spec : {M : Type 1} → statement M
-keeps_call_sc_context_spec = tie.close (search (tie.spec, returns, places, within, rows, local-row, next_row))
+keeps_call_sc_context_spec = tie.close (search (tie.spec, returns, places, within, rows, local_row, next_row))

@@ -8,15 +8,15 @@ use Rattle.judge_columns.proofs.Rules.{keeps, rules, chains}
 use Rattle.judge_call_sc.proofs.keeps_call_sc_lines.Statement.{statement}
 use Rattle.judge_call_sc.proofs.keeps_call_sc_lines.Tie as tie
 
-local-row : (c : tie.Start) → Row c.args.lv.now
-local-row c = c.requires.local
+local_row : (c : tie.Start) → Row c.args.lv.now
+local_row c = c.requires.local
 
 next_row : (c : tie.Start) → Row c.args.nv.now
 next_row c = c.requires.next
 
 returns : tie.Need-returns
 unfolding rules_N
-returns c = sym (keeps _ _ _ _ _ ∙ search (rules, chains, exprs, places, local-row, next_row) depth 100 fits 100000)
+returns c = sym (keeps _ _ _ _ _ ∙ search (rules, chains, exprs, places, local_row, next_row) depth 100 fits 100000)
 
 pub keeps_call_sc_lines_spec : {M : Type 1} → statement M
-keeps_call_sc_lines_spec = tie.close (search (tie.spec, returns, places, local-row, next_row))
+keeps_call_sc_lines_spec = tie.close (search (tie.spec, returns, places, local_row, next_row))

@@ -10,15 +10,15 @@ use Rattle.judge_kinds.proofs.Picked.{ext_kind_of, next_ext_kind_of, length_of, 
 use Rattle.judge_environment.proofs.keeps_ext_lines.Statement.{statement}
 use Rattle.judge_environment.proofs.keeps_ext_lines.Tie as tie
 
-local-row : (c : tie.Start) → Row c.args.lv.now
-local-row c = c.requires.local
+local_row : (c : tie.Start) → Row c.args.lv.now
+local_row c = c.requires.local
 
 next_row : (c : tie.Start) → Row c.args.nv.now
 next_row c = c.requires.next
 
 returns : tie.Need-returns
 unfolding rules_D
-returns c = sym (keeps _ _ _ _ _ ∙ search (ext_kind_of, next_ext_kind_of, length_of, same_of, rules, chains, exprs, places, length-below, local-row, next_row) depth 100 fits 100000)
+returns c = sym (keeps _ _ _ _ _ ∙ search (ext_kind_of, next_ext_kind_of, length_of, same_of, rules, chains, exprs, places, length-below, local_row, next_row) depth 100 fits 100000)
 
 pub keeps_ext_lines_spec : {M : Type 1} → statement M
-keeps_ext_lines_spec = tie.close (search (tie.spec, returns, places, within, local-row, next_row))
+keeps_ext_lines_spec = tie.close (search (tie.spec, returns, places, within, local_row, next_row))

@@ -10,15 +10,15 @@ use Rattle.judge_pc_registers.proofs.Picked.{registers_free_of, fp_free_of}
 use Rattle.judge_flow.proofs.keeps_registers.Statement.{statement}
 use Rattle.judge_flow.proofs.keeps_registers.Tie as tie
 
-local-row : (c : tie.Start) → Row c.args.lv.now
-local-row c = c.requires.local
+local_row : (c : tie.Start) → Row c.args.lv.now
+local_row c = c.requires.local
 
 next_row : (c : tie.Start) → Row c.args.nv.now
 next_row c = c.requires.next
 
 returns : tie.Need-returns
 unfolding rules_K
-returns c = sym (keeps _ _ _ _ _ ∙ search (registers_free_of, fp_free_of, kept_unless_dst_of, rules, exprs, places, local-row, next_row) depth 100 fits 100000)
+returns c = sym (keeps _ _ _ _ _ ∙ search (registers_free_of, fp_free_of, kept_unless_dst_of, rules, exprs, places, local_row, next_row) depth 100 fits 100000)
 
 pub keeps_registers_spec : {M : Type 1} → statement M
-keeps_registers_spec = tie.close (search (tie.spec, returns, places, local-row, next_row))
+keeps_registers_spec = tie.close (search (tie.spec, returns, places, local_row, next_row))

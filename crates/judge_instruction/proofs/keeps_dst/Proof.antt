@@ -8,14 +8,14 @@ use Rattle.judge_columns.proofs.Spans.{bits_of, ones_of, next_chosen_of, asks_ch
 use Rattle.judge_instruction.proofs.keeps_dst.Statement.{statement}
 use Rattle.judge_instruction.proofs.keeps_dst.Tie as tie
 
-local-row : (c : tie.Start) → Row c.args.lv.now
-local-row c = c.requires.local
+local_row : (c : tie.Start) → Row c.args.lv.now
+local_row c = c.requires.local
 
 next_row : (c : tie.Start) → Row c.args.nv.now
 next_row c = c.requires.next
 
 returns : tie.Need-returns
-returns c = sym (keeps _ _ _ _ _ ∙ search (bits_of, ones_of, next_chosen_of, rules, counts, exprs, places, local-row, next_row) depth 100 fits 100000)
+returns c = sym (keeps _ _ _ _ _ ∙ search (bits_of, ones_of, next_chosen_of, rules, counts, exprs, places, local_row, next_row) depth 100 fits 100000)
 
 pub keeps_dst_spec : {M : Type 1} → statement M
-keeps_dst_spec = tie.close (search (tie.spec, returns, places, asks_chosen, local-row, next_row))
+keeps_dst_spec = tie.close (search (tie.spec, returns, places, asks_chosen, local_row, next_row))

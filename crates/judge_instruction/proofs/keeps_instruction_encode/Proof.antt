@@ -9,12 +9,12 @@ use Rattle.judge_instruction.proofs.Words.{word_part_of, word_part-below, word_p
 use Rattle.judge_instruction.proofs.keeps_instruction_encode.Statement.{statement}
 use Rattle.judge_instruction.proofs.keeps_instruction_encode.Tie as tie
 
-local-row : (c : tie.Start) → Row c.args.lv.now
-local-row c = c.requires
+local_row : (c : tie.Start) → Row c.args.lv.now
+local_row c = c.requires
 
 returns : tie.Need-returns
 unfolding rules_G
-returns c = sym (keeps _ _ _ _ _ ∙ search (word_part_of, rules, exprs, places, local-row) depth 100 fits 100000)
+returns c = sym (keeps _ _ _ _ _ ∙ search (word_part_of, rules, exprs, places, local_row) depth 100 fits 100000)
 
 pub keeps_instruction_encode_spec : {M : Type 1} → statement M
-keeps_instruction_encode_spec = tie.close (search (tie.spec, returns, places, word_part-below, word_part_asks, local-row))
+keeps_instruction_encode_spec = tie.close (search (tie.spec, returns, places, word_part-below, word_part_asks, local_row))

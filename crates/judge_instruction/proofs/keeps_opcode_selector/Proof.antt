@@ -11,15 +11,15 @@ use Rattle.judge_opcode.proofs.Picked.{has_opcode_of}
 use Rattle.judge_instruction.proofs.keeps_opcode_selector.Statement.{statement}
 use Rattle.judge_instruction.proofs.keeps_opcode_selector.Tie as tie
 
-local-row : (c : tie.Start) → Row c.args.lv.now
-local-row c = c.requires.columns
+local_row : (c : tie.Start) → Row c.args.lv.now
+local_row c = c.requires.columns
 
 coded : (c : tie.Start) → Coded c.args.masks.now c.args.lv.now
 coded c = c.requires
 
 returns : tie.Need-returns
 unfolding rules_F
-returns c = sym (keeps _ _ _ _ _ ∙ search (has_opcode_of, bits_of, ones_of, rules, counts, exprs, places, local-row) depth 100 fits 100000)
+returns c = sym (keeps _ _ _ _ _ ∙ search (has_opcode_of, bits_of, ones_of, rules, counts, exprs, places, local_row) depth 100 fits 100000)
 
 pub keeps_opcode_selector_spec : {M : Type 1} → statement M
-keeps_opcode_selector_spec = tie.close (search (tie.spec, returns, places, local-row, coded))
+keeps_opcode_selector_spec = tie.close (search (tie.spec, returns, places, local_row, coded))

@@ -9,14 +9,14 @@ use Rattle.judge_opcode.proofs.Opcode.{opcode_low, opcode_high, opcode_none}
 use Rattle.judge_opcode.proofs.has_opcode.Goals as goal
 use Rattle.judge_opcode.proofs.has_opcode.Goals.{Start}
 
-local-row : (c : Start) → Row c.args.lv.now
-local-row c = c.requires.columns
+local_row : (c : Start) → Row c.args.lv.now
+local_row c = c.requires.columns
 
 masks : (c : Start) → Masks c.args.masks.now
 masks c = c.requires.opcodes
 
 pub bounds-lv-28 : goal.bounds-lv-28
-bounds-lv-28 c = search (places, local-row)
+bounds-lv-28 c = search (places, local_row)
 
 pub bounds-masks-0 : goal.bounds-masks-0
 bounds-masks-0 c = search (places, masks)
@@ -43,10 +43,10 @@ pub bounds-masks-7 : goal.bounds-masks-7
 bounds-masks-7 c = search (places, masks)
 
 pub returns-in-0 : goal.returns-in-0
-returns-in-0 c = rw c.in-0.is (sym (search (rules, choices, exprs, places, local-row, masks) depth 100 fits 100000))
+returns-in-0 c = rw c.in-0.is (sym (search (rules, choices, exprs, places, local_row, masks) depth 100 fits 100000))
 
 pub returns-in-10 : goal.returns-in-10
-returns-in-10 c = rw c.in-10.is (sym (search (rules, choices, exprs, places, local-row, masks) depth 100 fits 100000))
+returns-in-10 c = rw c.in-10.is (sym (search (rules, choices, exprs, places, local_row, masks) depth 100 fits 100000))
 
 pub returns-in-1-to-9 : goal.returns-in-1-to-9
 returns-in-1-to-9 c =

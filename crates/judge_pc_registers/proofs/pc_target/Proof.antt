@@ -11,37 +11,37 @@ use Rattle.judge_pc_registers.proofs.Picked.{size_of, size_below}
 use Rattle.judge_pc_registers.proofs.pc_target.Statement.{statement}
 use Rattle.judge_pc_registers.proofs.pc_target.Tie as tie
 
-local-row : (c : tie.Start) → Row c.args.lv.now
-local-row c = c.requires
+local_row : (c : tie.Start) → Row c.args.lv.now
+local_row c = c.requires
 
 returns : tie.Need-returns-in-2
 returns c =
     record {
       goes = λ n r. ⊎_elim
-          (λ e. rw e (search (rules, exprs, places, local-row)))
-          (λ e. rw e (search (rules, exprs, places, local-row)))
+          (λ e. rw e (search (rules, exprs, places, local_row)))
+          (λ e. rw e (search (rules, exprs, places, local_row)))
           c.in-2.is;
-      below = search (places, local-row);
+      below = search (places, local_row);
     }
 
 returns-2 : tie.Need-returns-in-5
 returns-2 c =
     record {
-      goes = λ n r. rw c.in-5.is (search (rules, exprs, places, local-row));
-      below = search (places, local-row);
+      goes = λ n r. rw c.in-5.is (search (rules, exprs, places, local_row));
+      below = search (places, local_row);
     }
 
 returns-3 : tie.Need-returns-then-lv-eq1
 returns-3 c =
     record {
-      goes = λ n r. goes-taken _ _ c.in-3.is (on_true [] c.args.lv.now n 0 0 (search local-row) 30 c.if-lv-eq1.true) (search (rules, exprs, places, local-row));
-      below = search (places, local-row);
+      goes = λ n r. goes-taken _ _ c.in-3.is (on_true [] c.args.lv.now n 0 0 (search local_row) 30 c.if-lv-eq1.true) (search (rules, exprs, places, local_row));
+      below = search (places, local_row);
     }
 
 returns-4 : tie.Need-returns-else-lv-eq1
 returns-4 c =
     record {
-      goes = λ n r. goes_left _ _ c.in-3.is (on_false [] c.args.lv.now n 0 0 (search local-row) 30 c.if-lv-eq1.false) (search (rules, exprs, size_of, places));
+      goes = λ n r. goes_left _ _ c.in-3.is (on_false [] c.args.lv.now n 0 0 (search local_row) 30 c.if-lv-eq1.false) (search (rules, exprs, size_of, places));
       below = search places;
     }
 
@@ -53,4 +53,4 @@ returns-5 c =
     }
 
 pub pc_target_spec : {M : Type 1} → statement M
-pc_target_spec = tie.close (search (tie.spec, returns, returns-2, returns-3, returns-4, returns-5, places, size_below, local-row))
+pc_target_spec = tie.close (search (tie.spec, returns, returns-2, returns-3, returns-4, returns-5, places, size_below, local_row))

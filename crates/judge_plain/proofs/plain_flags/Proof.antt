@@ -8,8 +8,8 @@ use Rattle.judge_plain.proofs.Flags.{plain-is, bit_of, selectors_of}
 use Rattle.judge_plain.proofs.plain_flags.Statement.{statement}
 use Rattle.judge_plain.proofs.plain_flags.Tie as tie
 
-local-row : (c : tie.Start) → Row c.args.lv.now
-local-row c = c.requires.local
+local_row : (c : tie.Start) → Row c.args.lv.now
+local_row c = c.requires.local
 
 next_row : (c : tie.Start) → Row c.args.nv.now
 next_row c = c.requires.next
@@ -18,4 +18,4 @@ returns : tie.Need-returns
 returns c = sym (plain-is _ _ ∙ search (bit_of, selectors_of, ones_of, eqb_of, both) depth 100 fits 100000)
 
 pub plain_flags_spec : {M : Type 1} → statement M
-plain_flags_spec = tie.close (search (tie.spec, returns, places, local-row, next_row))
+plain_flags_spec = tie.close (search (tie.spec, returns, places, local_row, next_row))

@@ -17,8 +17,8 @@ use Rattle.judge_rules.proofs.keeps.Tie as tie
 rows : (c : tie.Start) → Rows c.args.lv.now c.args.nv.now
 rows c = c.requires.rows
 
-local-row : (c : tie.Start) → Row c.args.lv.now
-local-row c = c.requires.rows.local
+local_row : (c : tie.Start) → Row c.args.lv.now
+local_row c = c.requires.rows.local
 
 masks : (c : tie.Start) → Masks c.args.masks.now
 masks c = c.requires.opcodes
@@ -27,4 +27,4 @@ returns : tie.Need-returns
 returns c = sym (rulebook_joins _ _ _ _ _ ∙ search (kind_is, transaction, environment, instruction, flow, arithmetic_of, tape_of, call_sc_of, both) depth 100 fits 100000)
 
 pub keeps_spec : {M : Type 1} → statement M
-keeps_spec = tie.close (search (tie.spec, returns, coded, rows, local-row, masks))
+keeps_spec = tie.close (search (tie.spec, returns, coded, rows, local_row, masks))

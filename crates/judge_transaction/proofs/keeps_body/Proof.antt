@@ -9,8 +9,8 @@ use Rattle.judge_columns.proofs.Spans.{addresses_kept_of}
 use Rattle.judge_transaction.proofs.keeps_body.Statement.{statement}
 use Rattle.judge_transaction.proofs.keeps_body.Tie as tie
 
-local-row : (c : tie.Start) → Row c.args.lv.now
-local-row c = c.requires.local
+local_row : (c : tie.Start) → Row c.args.lv.now
+local_row c = c.requires.local
 
 next_row : (c : tie.Start) → Row c.args.nv.now
 next_row c = c.requires.next
@@ -20,7 +20,7 @@ rows c = c.requires
 
 returns : tie.Need-returns
 unfolding rules_C
-returns c = sym (keeps _ _ _ _ _ ∙ search (addresses_kept_of, rules, chains, exprs, places, local-row, next_row) depth 100 fits 100000)
+returns c = sym (keeps _ _ _ _ _ ∙ search (addresses_kept_of, rules, chains, exprs, places, local_row, next_row) depth 100 fits 100000)
 
 pub keeps_body_spec : {M : Type 1} → statement M
-keeps_body_spec = tie.close (search (tie.spec, returns, places, rows, local-row, next_row))
+keeps_body_spec = tie.close (search (tie.spec, returns, places, rows, local_row, next_row))

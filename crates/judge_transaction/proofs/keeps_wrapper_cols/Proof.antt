@@ -9,15 +9,15 @@ use Rattle.judge_kinds.proofs.Picked.{length_of, length-below}
 use Rattle.judge_transaction.proofs.keeps_wrapper_cols.Statement.{statement}
 use Rattle.judge_transaction.proofs.keeps_wrapper_cols.Tie as tie
 
-local-row : (c : tie.Start) → Row c.args.lv.now
-local-row c = c.requires.local
+local_row : (c : tie.Start) → Row c.args.lv.now
+local_row c = c.requires.local
 
 next_row : (c : tie.Start) → Row c.args.nv.now
 next_row c = c.requires.next
 
 returns : tie.Need-returns
 unfolding rules_A
-returns c = sym (keeps _ _ _ _ _ ∙ search (length_of, rules, exprs, places, length-below, local-row, next_row) depth 100 fits 100000)
+returns c = sym (keeps _ _ _ _ _ ∙ search (length_of, rules, exprs, places, length-below, local_row, next_row) depth 100 fits 100000)
 
 pub keeps_wrapper_cols_spec : {M : Type 1} → statement M
-keeps_wrapper_cols_spec = tie.close (search (tie.spec, returns, places, local-row, next_row))
+keeps_wrapper_cols_spec = tie.close (search (tie.spec, returns, places, local_row, next_row))

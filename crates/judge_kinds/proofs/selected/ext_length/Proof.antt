@@ -9,14 +9,14 @@ use Rattle.judge_kinds.proofs.Cases.{length-one, length_outside}
 use Rattle.judge_kinds.proofs.selected.ext_length.Statement.{statement}
 use Rattle.judge_kinds.proofs.selected.ext_length.Tie as tie
 
-local-row : (c : tie.Start) → Row c.args.lv.now
-local-row c = c.requires
+local_row : (c : tie.Start) → Row c.args.lv.now
+local_row c = c.requires
 
 returns : tie.Need-returns-in-16
 returns c = (rw c.in-16.is (sym (search exprs)), search places)
 
 returns-2 : tie.Need-returns-in-17
-returns-2 c = (rw c.in-17.is (sym (search exprs)), search (places, local-row))
+returns-2 c = (rw c.in-17.is (sym (search exprs)), search (places, local_row))
 
 returns-3 : tie.Need-returns-in-8
 returns-3 c = (rw c.in-8.is (sym (search exprs)), search places)
@@ -34,4 +34,4 @@ returns-7 : tie.Need-returns-in-14-2
 returns-7 c = (sym (length-one _ c.args.k (omega arith) (omega arith)), lit< tt)
 
 pub ext_length_spec : {M : Type 1} → statement M
-ext_length_spec = tie.close (search (tie.spec, returns, returns-2, returns-3, returns-4, returns-5, returns-6, returns-7, places, local-row))
+ext_length_spec = tie.close (search (tie.spec, returns, returns-2, returns-3, returns-4, returns-5, returns-6, returns-7, places, local_row))
