@@ -9,7 +9,6 @@ ghost use Rattle.edge_consumer.specs.Calls.{kind_of, letters, yielded_by};
 use algebra::P;
 use consumer::{ConstraintConsumer, Outcome, pushed, pushed_first_row, pushed_transition};
 use edge_residues::lines;
-use libc::STDOUT_FILENO;
 use table::NUM_VALUES;
 use table::columns::NUM_CPU_COLS;
 use table::masks::NUM_MASKS;
@@ -82,18 +81,18 @@ fn by_consumer(
 }
 
 // What the fold and what the consumer made of an accumulator.
-fn compare(words: &[u8], folded: u64, pushed: u64)
+fn compare(rt: HostRuntime, words: &[u8], folded: u64, pushed: u64)
     requires { pushed ≡ folded }
 {
-    io::write_all(STDOUT_FILENO, words);
-    io::print_decimal(STDOUT_FILENO, folded);
-    io::write_all(STDOUT_FILENO, b", a consumer to ");
-    io::print_decimal(STDOUT_FILENO, pushed);
-    io::write_all(STDOUT_FILENO, b"\n");
+    let _ = rt.stdout().write_all(words);
+    let _ = rt.stdout().print(folded);
+    let _ = rt.stdout().write_all(b", a consumer to ");
+    let _ = rt.stdout().print(pushed);
+    let _ = rt.stdout().write_all(b"\n");
     check::expect(pushed == folded);
 }
 
-fn main() {
+fn main(rt: HostRuntime) {
     let mut masks = [0u64; NUM_MASKS];
     masks[1] = 1;
     masks[2] = 2;
@@ -105,12 +104,12 @@ fn main() {
     let mut folded = [5u64, 6, P - 1];
     let mut pushed = [5u64, 6, P - 1];
     let number = pair_fold::pair_fold(&masks, &lv, &nv, 3, 2, &alphas, &mut folded);
-    lines::answer(b"three alphas", number);
+    lines::answer(rt, b"three alphas", number);
     if number != 0 {
         return;
     }
     by_consumer(&masks, &lv, &nv, 3, 2, &alphas, &mut pushed);
-    compare(b"alpha 0 folds 5 to ", folded[0], pushed[0]);
-    compare(b"alpha 1 folds 6 to ", folded[1], pushed[1]);
-    compare(b"alpha p - 2 folds p - 1 to ", folded[2], pushed[2]);
+    compare(rt, b"alpha 0 folds 5 to ", folded[0], pushed[0]);
+    compare(rt, b"alpha 1 folds 6 to ", folded[1], pushed[1]);
+    compare(rt, b"alpha p - 2 folds p - 1 to ", folded[2], pushed[2]);
 }

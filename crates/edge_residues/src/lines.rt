@@ -1,21 +1,20 @@
 // The lines that are printed.
-use libc::STDOUT_FILENO;
 
 // Words, and a number.
-pub fn number(words: &[u8], n: u64) {
-    io::write_all(STDOUT_FILENO, words);
-    io::print_decimal(STDOUT_FILENO, n);
-    io::write_all(STDOUT_FILENO, b"\n");
+pub fn number(rt: HostRuntime, words: &[u8], n: u64) {
+    let _ = rt.stdout().write_all(words);
+    let _ = rt.stdout().print(n);
+    let _ = rt.stdout().write_all(b"\n");
 }
 
 // What an entry was asked, and "accepted", or "refused" and the number.
-pub fn answer(words: &[u8], number: u64) {
-    io::write_all(STDOUT_FILENO, words);
+pub fn answer(rt: HostRuntime, words: &[u8], number: u64) {
+    let _ = rt.stdout().write_all(words);
     if number == 0 {
-        io::write_all(STDOUT_FILENO, b": accepted\n");
+        let _ = rt.stdout().write_all(b": accepted\n");
         return;
     }
-    io::write_all(STDOUT_FILENO, b": refused ");
-    io::print_decimal(STDOUT_FILENO, number);
-    io::write_all(STDOUT_FILENO, b"\n");
+    let _ = rt.stdout().write_all(b": refused ");
+    let _ = rt.stdout().print(number);
+    let _ = rt.stdout().write_all(b"\n");
 }

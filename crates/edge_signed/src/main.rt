@@ -11,7 +11,6 @@ use algebra::P;
 use checked_residue::Residue;
 use edge_residues::residues;
 use field_signed::{GREATEST, Signed};
-use libc::STDOUT_FILENO;
 
 // Document 01's number of an answer.
 fn number(s: Signed) -> u64
@@ -34,94 +33,94 @@ fn value(s: Signed) -> i64
 }
 
 // Prints a signed number.
-fn print_signed(z: i64) {
+fn print_signed(rt: HostRuntime, z: i64) {
     if z < 0 {
-        io::write_all(STDOUT_FILENO, b"-");
+        let _ = rt.stdout().write_all(b"-");
     }
-    io::print_decimal(STDOUT_FILENO, field_signed_maps::distance(z));
+    let _ = rt.stdout().print(field_signed_maps::distance(z));
 }
 
-fn print_refused(n: u64) {
-    io::write_all(STDOUT_FILENO, b" refused ");
-    io::print_decimal(STDOUT_FILENO, n);
+fn print_refused(rt: HostRuntime, n: u64) {
+    let _ = rt.stdout().write_all(b" refused ");
+    let _ = rt.stdout().print(n);
 }
 
 // Prints "signed residue = value" or "signed residue refused number".
-fn print_to(residue: u64, s: Signed) {
-    io::write_all(STDOUT_FILENO, b"signed ");
-    io::print_decimal(STDOUT_FILENO, residue);
+fn print_to(rt: HostRuntime, residue: u64, s: Signed) {
+    let _ = rt.stdout().write_all(b"signed ");
+    let _ = rt.stdout().print(residue);
     match s {
         Signed::Value(z) => {
-            io::write_all(STDOUT_FILENO, b" = ");
-            print_signed(z);
+            let _ = rt.stdout().write_all(b" = ");
+            print_signed(rt, z);
         }
-        Signed::Refused(n) => print_refused(n),
+        Signed::Refused(n) => print_refused(rt, n),
     }
-    io::write_all(STDOUT_FILENO, b"\n");
+    let _ = rt.stdout().write_all(b"\n");
 }
 
 // Prints "unsigned value = residue" or "unsigned value refused number".
-fn print_back(value: i64, r: Residue) {
-    io::write_all(STDOUT_FILENO, b"unsigned ");
-    print_signed(value);
+fn print_back(rt: HostRuntime, value: i64, r: Residue) {
+    let _ = rt.stdout().write_all(b"unsigned ");
+    print_signed(rt, value);
     match r {
         Residue::Value(v) => {
-            io::write_all(STDOUT_FILENO, b" = ");
-            io::print_decimal(STDOUT_FILENO, v);
+            let _ = rt.stdout().write_all(b" = ");
+            let _ = rt.stdout().print(v);
         }
-        Residue::Refused(n) => print_refused(n),
+        Residue::Refused(n) => print_refused(rt, n),
     }
-    io::write_all(STDOUT_FILENO, b"\n");
+    let _ = rt.stdout().write_all(b"\n");
 }
 
 // The entries, each with its line printed.
-fn signed(residue: u64) -> Signed
+fn signed(rt: HostRuntime, residue: u64) -> Signed
     ensures { result ≡ to_signed residue }
 {
     let s = field_signed_maps::signed(residue);
-    print_to(residue, s);
+    print_to(rt, residue, s);
     s
 }
 
-fn unsigned(value: i64) -> Residue
+fn unsigned(rt: HostRuntime, value: i64) -> Residue
     ensures { result ≡ to_residue value }
 {
     let r = field_signed_maps::unsigned(value);
-    print_back(value, r);
+    print_back(rt, value, r);
     r
 }
 
 // A residue and its signed number: there, and back.
-fn both(residue: u64, z: i64)
+fn both(rt: HostRuntime, residue: u64, z: i64)
     requires { (to_signed residue ≡ Value z) × (to_residue z ≡ Given residue) }
 {
-    check::expect(value(signed(residue)) == z);
-    check::expect(residues::value(unsigned(z)) == residue);
+    check::expect(value(signed(rt, residue)) == z);
+    check::expect(residues::value(unsigned(rt, z)) == residue);
 }
 
 // A number that is not below p is refused, and so is a signed number outside the range.
-fn not_below_p(e: u64)
+fn not_below_p(rt: HostRuntime, e: u64)
     requires { p ≤ e }
 {
-    check::expect(number(signed(e)) == 7);
+    check::expect(number(signed(rt, e)) == 7);
 }
 
-fn outside(z: i64)
+fn outside(rt: HostRuntime, z: i64)
     requires { greatest < nat_abs z }
 {
-    check::expect(residues::number(unsigned(z)) == 7);
+    check::expect(residues::number(unsigned(rt, z)) == 7);
 }
 
-fn main() {
-    both(0, 0);
-    both(1, 1);
-    both(GREATEST, 9223372034707292160);
-    both(GREATEST + 1, -9223372034707292160);
-    both(P - 1, -1);
-    not_below_p(P);
-    not_below_p(0xffff_ffff_ffff_ffff);
-    outside(9223372034707292161);
-    outside(-9223372034707292161);
-    outside(9223372036854775807);
-    outside(-9223372036854775808);
+fn main(rt: HostRuntime) {
+    both(rt, 0, 0);
+    both(rt, 1, 1);
+    both(rt, GREATEST, 9223372034707292160);
+    both(rt, GREATEST + 1, -9223372034707292160);
+    both(rt, P - 1, -1);
+    not_below_p(rt, P);
+    not_below_p(rt, 0xffff_ffff_ffff_ffff);
+    outside(rt, 9223372034707292161);
+    outside(rt, -9223372034707292161);
+    outside(rt, 9223372036854775807);
+    outside(rt, -9223372036854775808);
 }

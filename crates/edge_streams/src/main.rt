@@ -6,7 +6,6 @@ ghost use Rattle.stream_model.specs.Model.{feed_of};
 ghost use Rattle.stream_model.specs.Sound.{Sound};
 ghost use Rattle.worked.specs.Rows.{after as stateAfter};
 
-use libc::STDOUT_FILENO;
 use stream_model::{ROW_BYTES, State};
 use stream_text::{PAIR_BYTES, Text};
 
@@ -38,7 +37,7 @@ fn after(n: usize) -> State
 }
 
 // What the program of this name prints last, where n zero rows are fed and then `bytes`, printed behind the name and the words.
-fn last_text(text: Text, name: &[u8], words: &[u8], n: usize, bytes: &[u8], expected: &[u8])
+fn last_text(rt: HostRuntime, text: Text, name: &[u8], words: &[u8], n: usize, bytes: &[u8], expected: &[u8])
     requires rows { n ≤ 65536 }
     requires expected { expected.now ≡ (feed_of (text_by text) (stateAfter n) bytes.now).text }
 {
@@ -46,26 +45,27 @@ fn last_text(text: Text, name: &[u8], words: &[u8], n: usize, bytes: &[u8], expe
     let step = stream_steps::feed(text, after(n), bytes, &mut out, 0);
     let next = step.next;
     check::expect(check::same(&out[..next], expected));
-    io::write_all(STDOUT_FILENO, name);
-    io::write_all(STDOUT_FILENO, words);
-    io::write_all(STDOUT_FILENO, &out[..next]);
+    let _ = rt.stdout().write_all(name);
+    let _ = rt.stdout().write_all(words);
+    let _ = rt.stdout().write_all(&out[..next]);
 }
 
 // "0, 1, 65,536, 65,537 rows"   (document 01): of one row and of the most, what is expected is handed over.
-fn edges(text: Text, name: &[u8], one: &[u8], most: &[u8])
+fn edges(rt: HostRuntime, text: Text, name: &[u8], one: &[u8], most: &[u8])
     requires one { one.now ≡ (feed_of (text_by text) (stateAfter 1) []).text }
     requires most { most.now ≡ (feed_of (text_by text) (stateAfter 65536) []).text }
 {
     let row = [0u8; ROW_BYTES];
-    last_text(text, name, b", 0 rows: ", 0, b"", b"refused 1\n");
-    last_text(text, name, b", 1 row: ", 1, b"", one);
-    last_text(text, name, b", 65536 rows: ", 65536, b"", most);
-    last_text(text, name, b", 65537 rows: ", 65536, &row, b"refused 1\n");
+    last_text(rt, text, name, b", 0 rows: ", 0, b"", b"refused 1\n");
+    last_text(rt, text, name, b", 1 row: ", 1, b"", one);
+    last_text(rt, text, name, b", 65536 rows: ", 65536, b"", most);
+    last_text(rt, text, name, b", 65537 rows: ", 65536, &row, b"refused 1\n");
 }
 
-fn main() {
-    edges(Text::Counts, b"rowdesk", b"0 2 104\n", b"65535 2 104\n");
+fn main(rt: HostRuntime) {
+    edges(rt, Text::Counts, b"rowdesk", b"0 2 104\n", b"65535 2 104\n");
     edges(
+            rt,
         Text::Faults,
         b"faults",
         b"0 104 1\n0 148 -1\n",

@@ -12,67 +12,67 @@ use table::columns::NUM_CPU_COLS;
 const NINE: usize = 9;
 
 // "That pair folds from 0 to 0 under alpha 0 and 1, and under 2 to 18446673700603314177."   (document 01)
-pub fn worked() {
+pub fn worked(rt: HostRuntime) {
     let masks = POWERS;
     let row = [0u64; NUM_CPU_COLS];
     let alphas = [0u64, 1, 2];
     let mut accs = [0u64; 3];
     pair_fold::pair_fold(&masks, &row, &row, 0, 1, &alphas, &mut accs);
-    lines::number(b"zero row: alpha 0 folds 0 to ", accs[0]);
-    lines::number(b"zero row: alpha 1 folds 0 to ", accs[1]);
-    lines::number(b"zero row: alpha 2 folds 0 to ", accs[2]);
+    lines::number(rt, b"zero row: alpha 0 folds 0 to ", accs[0]);
+    lines::number(rt, b"zero row: alpha 1 folds 0 to ", accs[1]);
+    lines::number(rt, b"zero row: alpha 2 folds 0 to ", accs[2]);
     check::expect(accs[0] == 0);
     check::expect(accs[1] == 0);
     check::expect(accs[2] == 18446673700603314177);
 }
 
 // The number with which the fold under these alphas is turned back, printed behind the words.
-fn ask(words: &[u8], alphas: &[u64], accs: &mut [u64]) -> u64
+fn ask(rt: HostRuntime, words: &[u8], alphas: &[u64], accs: &mut [u64]) -> u64
     ensures { result ≡ pair_fold_refusal powers zeros zeros 0 1 alphas.now accs.old }
 {
     let masks = POWERS;
     let row = [0u64; NUM_CPU_COLS];
     let number = pair_fold::pair_fold(&masks, &row, &row, 0, 1, alphas, accs);
-    lines::answer(words, number);
+    lines::answer(rt, words, number);
     number
 }
 
 // With n alphas and as many accumulators, all 0.
-fn ask_count(words: &[u8], n: usize) -> u64
+fn ask_count(rt: HostRuntime, words: &[u8], n: usize) -> u64
     requires { n ≤ 9 }
     ensures { result ≡ pair_fold_refusal powers zeros zeros 0 1 (take n (replicate 9 0)) (take n (replicate 9 0)) }
 {
     let alphas = [0u64; NINE];
     let mut accs = [0u64; NINE];
-    ask(words, &alphas[..n], &mut accs[..n])
+    ask(rt, words, &alphas[..n], &mut accs[..n])
 }
 
 // With one alpha and its accumulator.
-fn ask_one(words: &[u8], alpha: u64, acc: u64) -> u64
+fn ask_one(rt: HostRuntime, words: &[u8], alpha: u64, acc: u64) -> u64
     ensures { result ≡ pair_fold_refusal powers zeros zeros 0 1 (alpha ∷ []) (acc ∷ []) }
 {
     let alphas = [alpha];
     let mut accs = [acc];
-    ask(words, &alphas, &mut accs)
+    ask(rt, words, &alphas, &mut accs)
 }
 
 // "0, 1, 8, 9 alphas"   (document 01)
-fn counts() {
-    check::expect(ask_count(b"0 alphas", 0) == 4);
-    check::expect(ask_count(b"1 alpha", 1) == 0);
-    check::expect(ask_count(b"8 alphas", 8) == 0);
-    check::expect(ask_count(b"9 alphas", 9) == 4);
+fn counts(rt: HostRuntime) {
+    check::expect(ask_count(rt, b"0 alphas", 0) == 4);
+    check::expect(ask_count(rt, b"1 alpha", 1) == 0);
+    check::expect(ask_count(rt, b"8 alphas", 8) == 0);
+    check::expect(ask_count(rt, b"9 alphas", 9) == 4);
 }
 
 // "p−1 and p"   (document 01)
-fn limits() {
-    check::expect(ask_one(b"an alpha p - 1", P - 1, 0) == 0);
-    check::expect(ask_one(b"an alpha p", P, 0) == 7);
-    check::expect(ask_one(b"an accumulator p - 1", 0, P - 1) == 0);
-    check::expect(ask_one(b"an accumulator p", 0, P) == 7);
+fn limits(rt: HostRuntime) {
+    check::expect(ask_one(rt, b"an alpha p - 1", P - 1, 0) == 0);
+    check::expect(ask_one(rt, b"an alpha p", P, 0) == 7);
+    check::expect(ask_one(rt, b"an accumulator p - 1", 0, P - 1) == 0);
+    check::expect(ask_one(rt, b"an accumulator p", 0, P) == 7);
 }
 
-pub fn edges() {
-    counts();
-    limits();
+pub fn edges(rt: HostRuntime) {
+    counts(rt);
+    limits(rt);
 }

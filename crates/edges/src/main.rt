@@ -9,13 +9,13 @@ mod masks;
 mod reports;
 mod values;
 
-fn main() {
-    residues::worked();
-    lengths::worked();
-    values::worked();
-    folds::worked();
-    residues::edges();
-    values::edges();
-    folds::edges();
-    reports::edges();
+fn main(rt: HostRuntime) {
+    residues::worked(rt);
+    lengths::worked(rt);
+    values::worked(rt);
+    folds::worked(rt);
+    residues::edges(rt);
+    values::edges(rt);
+    folds::edges(rt);
+    reports::edges(rt);
 }

@@ -7,7 +7,6 @@ ghost use Rattle.worked.specs.Rows.{powers};
 use crate::masks::POWERS;
 use answers::{Report, Spot};
 use edge_residues::lines;
-use libc::STDOUT_FILENO;
 use table::columns::NUM_CPU_COLS;
 
 // A spot's pair and value number, zeros where there is none.
@@ -30,39 +29,39 @@ fn value_of(s: Spot) -> u64
 }
 
 // The words, and what the report says behind them.
-fn print(words: &[u8], r: Report) {
+fn print(rt: HostRuntime, words: &[u8], r: Report) {
     if r.number != 0 {
-        lines::answer(words, r.number);
+        lines::answer(rt, words, r.number);
         return;
     }
     let spot = r.spot;
-    io::write_all(STDOUT_FILENO, words);
-    io::write_all(STDOUT_FILENO, b": pairs ");
-    io::print_decimal(STDOUT_FILENO, r.pairs);
-    io::write_all(STDOUT_FILENO, b", failing ");
-    io::print_decimal(STDOUT_FILENO, r.failing);
-    io::write_all(STDOUT_FILENO, b", first pair ");
-    io::print_decimal(STDOUT_FILENO, pair_of(spot));
-    lines::number(b", value ", value_of(spot));
+    let _ = rt.stdout().write_all(words);
+    let _ = rt.stdout().write_all(b": pairs ");
+    let _ = rt.stdout().print(r.pairs);
+    let _ = rt.stdout().write_all(b", failing ");
+    let _ = rt.stdout().print(r.failing);
+    let _ = rt.stdout().write_all(b", first pair ");
+    let _ = rt.stdout().print(pair_of(spot));
+    lines::number(rt, b", value ", value_of(spot));
 }
 
 // The report of a run, printed behind the words.
-fn ask(words: &[u8], run: &[u64]) -> Report
+fn ask(rt: HostRuntime, words: &[u8], run: &[u64]) -> Report
     ensures { result ≡ report_of run.now powers }
 {
     let masks = POWERS;
     let r = runs::run_report(run, &masks);
-    print(words, r);
+    print(rt, words, r);
     r
 }
 
 // "0, 1 .. rows"   (document 01)
-pub fn edges() {
+pub fn edges(rt: HostRuntime) {
     let run = [0u64; NUM_CPU_COLS];
-    let none = ask(b"report of 0 rows", &run[0..0]);
+    let none = ask(rt, b"report of 0 rows", &run[0..0]);
     check::expect(none.number == 1);
     check::expect(none.pairs == 0);
-    let one = ask(b"report of 1 row", &run);
+    let one = ask(rt, b"report of 1 row", &run);
     check::expect(one.number == 0);
     check::expect(one.pairs == 1);
     check::expect(one.failing == 1);

@@ -15,7 +15,7 @@ use table::columns::{
 use table::masks::SCCALL;
 
 // A value of a pair, by its number, printed behind the words. The weights are those of a run of one row.
-fn value(words: &[u8], lv: &[u64; NUM_CPU_COLS], nv: &[u64; NUM_CPU_COLS], number: usize) -> u64
+fn value(rt: HostRuntime, words: &[u8], lv: &[u64; NUM_CPU_COLS], nv: &[u64; NUM_CPU_COLS], number: usize) -> u64
     requires { (0 < number) × (number ≤ 226) }
     ensures { result ≡ get_or (pair_values_buffer powers lv.now nv.now 0 1 (replicate 226 0)) (number - 1) 0 }
 {
@@ -23,12 +23,12 @@ fn value(words: &[u8], lv: &[u64; NUM_CPU_COLS], nv: &[u64; NUM_CPU_COLS], numbe
     let mut out = [0u64; NUM_VALUES];
     pair::pair_values(&masks, lv, nv, 0, 1, &mut out);
     let v = out[number - 1];
-    lines::number(words, v);
+    lines::number(rt, words, v);
     v
 }
 
 // "OP1_IMM 1, op0 r0, dst r0, OPCODE 0: INST 4616189622349725696."   (document 01)
-fn instruction_word() {
+fn instruction_word(rt: HostRuntime) {
     let mut lv = [0u64; NUM_CPU_COLS];
     lv[COL_OP1_IMM] = 1;
     lv[COL_S_OP0_START] = 1;
@@ -37,6 +37,7 @@ fn instruction_word() {
     let nv = [0u64; NUM_CPU_COLS];
     check::expect(
         value(
+            rt,
             b"OP1_IMM 1, op0 r0, dst r0, OPCODE 0, INST 4616189622349725696: value 107 is ",
             &lv,
             &nv,
@@ -46,13 +47,14 @@ fn instruction_word() {
 }
 
 // "MLOAD size is 2 with OP1_IMM 0."   (document 01): from PC 0 to PC 2
-fn mload_size() {
+fn mload_size(rt: HostRuntime) {
     let mut lv = [0u64; NUM_CPU_COLS];
     lv[COL_S_MLOAD] = 1;
     let mut nv = [0u64; NUM_CPU_COLS];
     nv[COL_PC] = 2;
     check::expect(
         value(
+            rt,
             b"MLOAD, OP1_IMM 0, PC 0, next PC 2: value 148 is ",
             &lv,
             &nv,
@@ -62,7 +64,7 @@ fn mload_size() {
 }
 
 // How many values of the zero row's pair are not 0.
-fn nonzero() -> u64
+fn nonzero(rt: HostRuntime) -> u64
     ensures { result ≡ nonzeros (pair_values_buffer powers zeros zeros 0 1 (replicate 226 0)) }
 {
     let masks = POWERS;
@@ -70,27 +72,27 @@ fn nonzero() -> u64
     let mut out = [0u64; NUM_VALUES];
     pair::pair_values(&masks, &row, &row, 0, 1, &mut out);
     let tally = tally::count_nonzero(&out);
-    lines::number(b"zero row: values that are not 0: ", tally.count);
+    lines::number(rt, b"zero row: values that are not 0: ", tally.count);
     tally.count
 }
 
 // "Masks 2^0..2^24, one zero row: value 104 is 1, 148 is p−1, others 0"   (document 01)
-fn zero_row() {
+fn zero_row(rt: HostRuntime) {
     let row = [0u64; NUM_CPU_COLS];
-    check::expect(value(b"zero row: value 104 is ", &row, &row, 104) == 1);
-    check::expect(value(b"zero row: value 148 is ", &row, &row, 148) == P - 1);
-    check::expect(nonzero() == 2);
+    check::expect(value(rt, b"zero row: value 104 is ", &row, &row, 104) == 1);
+    check::expect(value(rt, b"zero row: value 148 is ", &row, &row, 148) == P - 1);
+    check::expect(nonzero(rt) == 2);
 }
 
-pub fn worked() {
-    instruction_word();
-    mload_size();
-    zero_row();
+pub fn worked(rt: HostRuntime) {
+    instruction_word(rt);
+    mload_size(rt);
+    zero_row(rt);
 }
 
 // The number with which a pair is turned back, printed behind the words: zero rows with other last columns, masks with another last
 // one, the weights, and the room of the buffer.
-fn ask(words: &[u8], mask: u64, local: u64, next: u64, z_last: u64, first: u64, room: usize) -> u64
+fn ask(rt: HostRuntime, words: &[u8], mask: u64, local: u64, next: u64, z_last: u64, first: u64, room: usize) -> u64
     requires { room ≤ 226 }
     ensures { result ≡ pair_values_refusal (last_mask mask) (last_column local) (last_column next) z_last first room }
 {
@@ -102,31 +104,31 @@ fn ask(words: &[u8], mask: u64, local: u64, next: u64, z_last: u64, first: u64, 
     nv[COL_IS_PADDING] = next;
     let mut out = [0u64; NUM_VALUES];
     let number = pair::pair_values(&masks, &lv, &nv, z_last, first, &mut out[..room]);
-    lines::answer(words, number);
+    lines::answer(rt, words, number);
     number
 }
 
 // "225 and 226 buffer values"   (document 01)
-fn buffers() {
-    check::expect(ask(b"a buffer of 225 values", 0, 0, 0, 0, 1, 225) == 3);
-    check::expect(ask(b"a buffer of 226 values", 0, 0, 0, 0, 1, 226) == 0);
+fn buffers(rt: HostRuntime) {
+    check::expect(ask(rt, b"a buffer of 225 values", 0, 0, 0, 0, 1, 225) == 3);
+    check::expect(ask(rt, b"a buffer of 226 values", 0, 0, 0, 0, 1, 226) == 0);
 }
 
 // "p−1 and p"   (document 01), in each place that the entry takes a number
-fn limits() {
-    check::expect(ask(b"a mask p - 1", P - 1, 0, 0, 0, 1, 226) == 0);
-    check::expect(ask(b"a mask p", P, 0, 0, 0, 1, 226) == 5);
-    check::expect(ask(b"a column p - 1", 0, P - 1, 0, 0, 1, 226) == 0);
-    check::expect(ask(b"a column p", 0, P, 0, 0, 1, 226) == 6);
-    check::expect(ask(b"a column p - 1 of the next row", 0, 0, P - 1, 0, 1, 226) == 0);
-    check::expect(ask(b"a column p of the next row", 0, 0, P, 0, 1, 226) == 6);
-    check::expect(ask(b"z_last p - 1", 0, 0, 0, P - 1, 1, 226) == 0);
-    check::expect(ask(b"z_last p", 0, 0, 0, P, 1, 226) == 7);
-    check::expect(ask(b"lagrange_basis_first p - 1", 0, 0, 0, 0, P - 1, 226) == 0);
-    check::expect(ask(b"lagrange_basis_first p", 0, 0, 0, 0, P, 226) == 7);
+fn limits(rt: HostRuntime) {
+    check::expect(ask(rt, b"a mask p - 1", P - 1, 0, 0, 0, 1, 226) == 0);
+    check::expect(ask(rt, b"a mask p", P, 0, 0, 0, 1, 226) == 5);
+    check::expect(ask(rt, b"a column p - 1", 0, P - 1, 0, 0, 1, 226) == 0);
+    check::expect(ask(rt, b"a column p", 0, P, 0, 0, 1, 226) == 6);
+    check::expect(ask(rt, b"a column p - 1 of the next row", 0, 0, P - 1, 0, 1, 226) == 0);
+    check::expect(ask(rt, b"a column p of the next row", 0, 0, P, 0, 1, 226) == 6);
+    check::expect(ask(rt, b"z_last p - 1", 0, 0, 0, P - 1, 1, 226) == 0);
+    check::expect(ask(rt, b"z_last p", 0, 0, 0, P, 1, 226) == 7);
+    check::expect(ask(rt, b"lagrange_basis_first p - 1", 0, 0, 0, 0, P - 1, 226) == 0);
+    check::expect(ask(rt, b"lagrange_basis_first p", 0, 0, 0, 0, P, 226) == 7);
 }
 
-pub fn edges() {
-    buffers();
-    limits();
+pub fn edges(rt: HostRuntime) {
+    buffers(rt);
+    limits(rt);
 }

@@ -1,6 +1,6 @@
 // Replays the stored cases of faults: the file stdin, made by `harness/run cases faults`.
 use stream_text::Text;
 
-fn main() {
-    stream_cases::run(Text::Faults);
+fn main(rt: HostRuntime) {
+    stream_cases::run(rt, Text::Faults);
 }

@@ -4,7 +4,6 @@
 ghost use Rattle.std.specs.Prelude.{◌≡◌, true, length};
 ghost use Rattle.replay.specs.Record.{Agrees};
 
-use libc::STDIN_FILENO;
 use table::NUM_VALUES;
 use table::columns::NUM_CPU_COLS;
 use table::masks::NUM_MASKS;
@@ -74,9 +73,9 @@ fn agrees(words: &[u64]) -> bool
 }
 
 // Reads a record and replays it.
-fn replay_record() -> Outcome {
+fn replay_record(rt: HostRuntime) -> Outcome {
     let mut bytes = [0u8; RECORD_BYTES];
-    let n = io::read_full(STDIN_FILENO, &mut bytes);
+    let n = compared_line::read_full(rt.stdin(), &mut bytes);
     if n == 0 {
         return Outcome::End;
     }
@@ -92,29 +91,29 @@ fn replay_record() -> Outcome {
     }
 }
 
-fn print(pairs: u64, differ: u64, fault: &[u8]) {
-    compared_line::print(pairs, b"pairs", differ, fault);
+fn print(rt: HostRuntime, pairs: u64, differ: u64, fault: &[u8]) {
+    compared_line::print(rt.stdout(), pairs, b"pairs", differ, fault);
 }
 
-fn main() {
+fn main(rt: HostRuntime) {
     let mut pairs: u64 = 0;
     let mut differ: u64 = 0;
     while pairs < MOST {
-        match replay_record() {
+        match replay_record(rt) {
             Outcome::Agrees => {}
             Outcome::Differs => {
                 differ += 1;
             }
             Outcome::Partial => {
-                print(pairs, differ, b", then a part of a record");
+                print(rt, pairs, differ, b", then a part of a record");
                 return;
             }
             Outcome::End => {
-                print(pairs, differ, b"");
+                print(rt, pairs, differ, b"");
                 return;
             }
         }
         pairs += 1;
     }
-    print(pairs, differ, b", and more follow");
+    print(rt, pairs, differ, b", and more follow");
 }

@@ -5,7 +5,6 @@ ghost use Rattle.stream_text.specs.Text.{text_by};
 ghost use Rattle.stream_model.specs.Model.{output_of};
 ghost use Rattle.stream_cases.specs.Case.{Fits, Stands, part_end_of};
 
-use libc::STDIN_FILENO;
 use stream_model::{MASK_BYTES, ROW_BYTES};
 use stream_text::{PAIR_BYTES, Text};
 
@@ -88,11 +87,11 @@ fn agrees(text: Text, input: &[u8], expected: &[u8]) -> bool
 }
 
 // Reads a part of a case, behind its length, into `part`.
-fn read_part(part: &mut [u8]) -> Size
+fn read_part(rt: HostRuntime, part: &mut [u8]) -> Size
     ensures { Fits result part.new }
 {
     let mut size = [0u8; SIZE_BYTES];
-    let got = io::read_full(STDIN_FILENO, &mut size);
+    let got = compared_line::read_full(rt.stdin(), &mut size);
     if got == 0 {
         return Size::End;
     }
@@ -104,16 +103,16 @@ fn read_part(part: &mut [u8]) -> Size
         return Size::Malformed;
     }
     let n = n as usize;
-    if io::read_full(STDIN_FILENO, &mut part[..n]) != n {
+    if compared_line::read_full(rt.stdin(), &mut part[..n]) != n {
         return Size::Malformed;
     }
     Size::Bytes(n)
 }
 
 // Reads what is expected of the input, and compares.
-fn replay_input(text: Text, input: &[u8]) -> Outcome {
+fn replay_input(rt: HostRuntime, text: Text, input: &[u8]) -> Outcome {
     let mut expected = [0u8; MOST_BYTES];
-    match read_part(&mut expected) {
+    match read_part(rt, &mut expected) {
         Size::Bytes(n) => {
             if agrees(text, input, &expected[..n]) {
                 Outcome::Agrees
@@ -126,39 +125,39 @@ fn replay_input(text: Text, input: &[u8]) -> Outcome {
 }
 
 // Reads a case and replays it.
-fn replay_case(text: Text) -> Outcome {
+fn replay_case(rt: HostRuntime, text: Text) -> Outcome {
     let mut input = [0u8; MOST_BYTES];
-    match read_part(&mut input) {
-        Size::Bytes(n) => replay_input(text, &input[..n]),
+    match read_part(rt, &mut input) {
+        Size::Bytes(n) => replay_input(rt, text, &input[..n]),
         Size::Malformed => Outcome::Malformed,
         Size::End => Outcome::End,
     }
 }
 
-fn print(cases: u64, differ: u64, fault: &[u8]) {
-    compared_line::print(cases, b"cases", differ, fault);
+fn print(rt: HostRuntime, cases: u64, differ: u64, fault: &[u8]) {
+    compared_line::print(rt.stdout(), cases, b"cases", differ, fault);
 }
 
 // Replays the cases of the program that prints this text of each pair, and prints how many differ.
-pub fn run(text: Text) {
+pub fn run(rt: HostRuntime, text: Text) {
     let mut cases: u64 = 0;
     let mut differ: u64 = 0;
     while cases < MOST_CASES {
-        match replay_case(text) {
+        match replay_case(rt, text) {
             Outcome::Agrees => {}
             Outcome::Differs => {
                 differ += 1;
             }
             Outcome::Malformed => {
-                print(cases, differ, b", then a malformed case");
+                print(rt, cases, differ, b", then a malformed case");
                 return;
             }
             Outcome::End => {
-                print(cases, differ, b"");
+                print(rt, cases, differ, b"");
                 return;
             }
         }
         cases += 1;
     }
-    print(cases, differ, b", and more follow");
+    print(rt, cases, differ, b", and more follow");
 }

@@ -5,7 +5,7 @@ use borrow.Author.Rules.{rules}
 use Rattle.replay.proofs.main.Given as goal
 
 abbrev pub invariant-loop-pairs : goal.invariant-loop-pairs
-invariant-loop-pairs l = differ ≤ pairs
+invariant-loop-pairs l = l.differ ≤ l.pairs
 
 abbrev pub decreases-loop-pairs : goal.decreases-loop-pairs
-decreases-loop-pairs l = 1000000 - pairs
+decreases-loop-pairs l = 1000000 - l.pairs

@@ -10,4 +10,4 @@ pub slice_bounds-read_full-end-3 : goal.slice_bounds-read_full-end-3
 slice_bounds-read_full-end-3 c = sym (length-take-le _ _ (omega arith))
 
 pub returns : goal.returns
-returns c = prefix_len_of_le _ _ (omega (arith, same-length-2 c))
+returns c = prefix_len_of_le _ _ (omega arith)

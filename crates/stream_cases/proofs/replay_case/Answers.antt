@@ -1,12 +1,11 @@
 -- `stream_cases::replay_case` meets its contract.
 use borrow.Author.Rules.{rules}
-use Rattle.stream_cases.proofs.Laws.{fits_bytes}
 use Rattle.stream_cases.proofs.replay_case.Goals as goal
 
 pub slice_bounds-input-end : goal.slice_bounds-input-end
 slice_bounds-input-end c =
-    (fits_bytes _ _ _ c.n-1.given.1 c.read_part.ensures).0
+    c.in-Bytes.ensures.0
 
 pub slice_bounds-replay_input-end : goal.slice_bounds-replay_input-end
 slice_bounds-replay_input-end c =
-    (fits_bytes _ _ _ c.n-1.given.1 c.read_part.ensures).1
+    c.in-Bytes.ensures.1

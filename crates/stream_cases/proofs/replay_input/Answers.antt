@@ -1,12 +1,11 @@
 -- `stream_cases::replay_input` meets its contract.
 use borrow.Author.Rules.{rules}
-use Rattle.stream_cases.proofs.Laws.{fits_bytes}
 use Rattle.stream_cases.proofs.replay_input.Goals as goal
 
 pub slice_bounds-expected-end : goal.slice_bounds-expected-end
 slice_bounds-expected-end c =
-    (fits_bytes _ _ _ c.n-1.given.1 c.read_part.ensures).0
+    c.in-Bytes.ensures.0
 
 pub slice_bounds-agrees-end : goal.slice_bounds-agrees-end
 slice_bounds-agrees-end c =
-    (fits_bytes _ _ _ c.n-1.given.1 c.read_part.ensures).1
+    c.in-Bytes.ensures.1

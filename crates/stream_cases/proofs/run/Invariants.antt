@@ -5,7 +5,7 @@ use borrow.Author.Rules.{rules}
 use Rattle.stream_cases.proofs.run.Given as goal
 
 abbrev pub invariant-loop-cases : goal.invariant-loop-cases
-invariant-loop-cases l = differ ≤ cases
+invariant-loop-cases l = l.differ ≤ l.cases
 
 abbrev pub decreases-loop-cases : goal.decreases-loop-cases
-decreases-loop-cases l = 1000000 - cases
+decreases-loop-cases l = 1000000 - l.cases
