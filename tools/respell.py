@@ -33,6 +33,10 @@ LEMMAS = {"taken-all": "taken_all_lem", "failing-lines": "failing_lines_lem", "r
 # a name that would fall together with a field or a variable of the code
 OTHERS = {"at-end": "at_input_end", "nextRow": "next_row_index", "partEnd": "part_end_of"}
 
+# names that the rule does not reach: with a dot for a namespace, and lemmas over a function's own records
+PLAIN = {"·isRing": "_is_ring", "·isDomain": "_is_domain", "local-row": "local_row", "factor-place": "factor_place",
+         "main-line": "main_line", "all-masks": "all_masks"}
+
 
 def is_repo_path(path):
     parts = path.split(".")
@@ -227,6 +231,9 @@ def respell(path, turned, fields, where, both):
         at = m.end()
     out.append(piece(text, at, len(text), token))
     new = "".join(out)
+    if path.endswith(".antt"):
+        for old, word in PLAIN.items():
+            new = re.sub(re.escape(old) + r"(?![\w'-])", word, new)
     if new != text:
         open(path, "w", encoding="utf-8").write(new)
 

@@ -11,7 +11,7 @@ use Rattle.algebra.specs.Prime.{IsPrime, p}
 use Rattle.algebra.specs.Modulo.{residue, modulo}
 use Rattle.algebra.specs.Field.{𝔾, val}
 use Rattle.algebra.proofs.Ring.{nat-add, nat-mul, neg-of_add}
-use Rattle.algebra.proofs.Modulo.{modulo·isRing, residue_of_lem}
+use Rattle.algebra.proofs.Modulo.{modulo_is_ring, residue_of_lem}
 use Rattle.algebra.proofs.Prime.{euclid}
 use Rattle.algebra.proofs.Proth.{proth}
 
@@ -24,10 +24,10 @@ module _ (m : ℕ) (P : IsPrime m) (pos : 0 < m) where
   zeros a b (inl e) = inl (small a e)
   zeros a b (inr e) = inr (small b e)
 
-  pub modulo·isDomain : IsDomain (modulo m pos)
-  modulo·isDomain =
+  pub modulo_is_domain : IsDomain (modulo m pos)
+  modulo_is_domain =
       record {
-        is_ring = modulo·isRing m pos;
+        is_ring = modulo_is_ring m pos;
         mul-eq-zero = λ a b e. zeros a b (euclid m P a.0 b.0 (ap (λ t. t.0) e ∙ zero-mod m));
         one-ne-zero = λ e. suc-ne-zero 0 (sym (mod-eq_of_lt P.one-lt) ∙ ap (λ t. t.0) e ∙ zero-mod m);
         discrete = Fin-discrete m;
@@ -40,12 +40,12 @@ p-is = refl
 pub p_prime : IsPrime p
 p_prime = proth p 31 1753635133440165772 (lit< tt) refl (lit< tt) refl
 
-pub 𝔾·isDomain : IsDomain 𝔾
+pub 𝔾_is_domain : IsDomain 𝔾
 unfolding 𝔾
-𝔾·isDomain = modulo·isDomain p p_prime (lit< tt)
+𝔾_is_domain = modulo_is_domain p p_prime (lit< tt)
 
-abbrev pub 𝔾·isRing : IsRing 𝔾
-𝔾·isRing = 𝔾·isDomain.is_ring
+abbrev pub 𝔾_is_ring : IsRing 𝔾
+𝔾_is_ring = 𝔾_is_domain.is_ring
 
 -- numbers and elements
 pub val-lt : (a : 𝔾.F) → val a < p
@@ -75,8 +75,8 @@ eq_of_nat m n l k e = sym (mod-eq_of_lt l) ∙ mod_of_nat m n e ∙ mod-eq_of_lt
 
 pub nat-neg : (b : ℕ) → b ≤ p → 𝔾.nat (p - b) ≡ 𝔾.neg (𝔾.nat b)
 nat-neg b l =
-    neg-of_add 𝔾 𝔾·isRing (𝔾.nat b) (𝔾.nat (p - b))
-    (sym (nat-add 𝔾 𝔾·isRing b (p - b)) ∙ ap 𝔾.nat (add-sub_of_le l) ∙ nat_of_mod p 0 refl ∙ 𝔾·isRing.nat-zero)
+    neg-of_add 𝔾 𝔾_is_ring (𝔾.nat b) (𝔾.nat (p - b))
+    (sym (nat-add 𝔾 𝔾_is_ring b (p - b)) ∙ ap 𝔾.nat (add-sub_of_le l) ∙ nat_of_mod p 0 refl ∙ 𝔾_is_ring.nat-zero)
 
--- takes the element of a number of sums, products and remainders apart: `simp (nat_laws, 𝔾·isRing)`
+-- takes the element of a number of sums, products and remainders apart: `simp (nat_laws, 𝔾_is_ring)`
 pub ruleset nat_laws = (nat-mod, nat-add, nat-mul)

@@ -18,8 +18,8 @@ module _ (m : ℕ) (pos : zero < m) where
   pub residue_of_lem : (a : Fin m) → residue m pos a.0 ≡ a
   residue_of_lem a = native.Mathlib.Fin.val_path (mod-eq_of_lt a.1)
 
-  pub modulo·isRing : IsRing (modulo m pos)
-  modulo·isRing =
+  pub modulo_is_ring : IsRing (modulo m pos)
+  modulo_is_ring =
       record {
         nat-zero = refl;
         nat-suc = λ n. native.Mathlib.Fin.val_path (ap (λ t. t % m) (suc-eq-add-one n) ∙ add-mod n 1 m);

@@ -8,7 +8,7 @@ use native.Mathlib.Numerals.{one-add}
 use Rattle.algebra.specs.Prime.{IsPrime}
 use Rattle.algebra.specs.Modulo.{residue, modulo}
 use Rattle.algebra.proofs.Ring.{neg-of_add, add-neg, nat-mul, one-mul}
-use Rattle.algebra.proofs.Modulo.{modulo·isRing}
+use Rattle.algebra.proofs.Modulo.{modulo_is_ring}
 use Rattle.algebra.proofs.Power.{pow, pow-zero, pow-suc, pow-add, mul-pow, distinct}
 use Rattle.algebra.proofs.Lists.{pigeonhole-ℕ}
 
@@ -24,19 +24,19 @@ module _ (p q : ℕ) (one-lt : 1 < q) (d : q ∣ p) where
   -- the squarings modulo p are, modulo a divisor of p, a power
   squares_pow : (k c : ℕ) → residue q pos (squares p k c) ≡ pow (modulo q pos) (residue q pos c) (2 ^ k)
   squares_pow zero c =
-      sym (pow-suc (modulo q pos) (modulo·isRing q pos) (residue q pos c) 0
-      ∙ ap (λ t. (modulo q pos).mul t (residue q pos c)) (pow-zero (modulo q pos) (modulo·isRing q pos) (residue q pos c))
-      ∙ one-mul (modulo q pos) (modulo·isRing q pos) (residue q pos c))
+      sym (pow-suc (modulo q pos) (modulo_is_ring q pos) (residue q pos c) 0
+      ∙ ap (λ t. (modulo q pos).mul t (residue q pos c)) (pow-zero (modulo q pos) (modulo_is_ring q pos) (residue q pos c))
+      ∙ one-mul (modulo q pos) (modulo_is_ring q pos) (residue q pos c))
   squares_pow (suc k) c =
       squares_pow k ((c * c) % p)
-      ∙ ap (λ t. pow (modulo q pos) t (2 ^ k)) (native.Mathlib.Fin.val_path (mod-mod_of_dvd q (c * c) d) ∙ nat-mul (modulo q pos) (modulo·isRing q pos) c c)
-      ∙ mul-pow (modulo q pos) (modulo·isRing q pos) (residue q pos c) (residue q pos c) (2 ^ k)
-      ∙ sym (pow-add (modulo q pos) (modulo·isRing q pos) (residue q pos c) (2 ^ k) (2 ^ k))
+      ∙ ap (λ t. pow (modulo q pos) t (2 ^ k)) (native.Mathlib.Fin.val_path (mod-mod_of_dvd q (c * c) d) ∙ nat-mul (modulo q pos) (modulo_is_ring q pos) c c)
+      ∙ mul-pow (modulo q pos) (modulo_is_ring q pos) (residue q pos c) (residue q pos c) (2 ^ k)
+      ∙ sym (pow-add (modulo q pos) (modulo_is_ring q pos) (residue q pos c) (2 ^ k) (2 ^ k))
       ∙ ap (pow (modulo q pos) (residue q pos c)) (sym (two-pow-succ k))
 
   minus_one : (n : ℕ) → suc n ≡ p → residue q pos n ≡ (modulo q pos).neg (modulo q pos).one
   minus_one n e =
-      neg-of_add (modulo q pos) (modulo·isRing q pos) (residue q pos 1) (residue q pos n)
+      neg-of_add (modulo q pos) (modulo_is_ring q pos) (residue q pos 1) (residue q pos n)
       (native.Mathlib.Fin.val_path (sym (add-mod 1 n q) ∙ ap (λ t. t % q) (one-add n ∙ e) ∙ mod-eq-zero_of_dvd q d ∙ sym (zero-mod q)))
 
   ne : p % 2 ≡ 1 → (modulo q pos).neg (modulo q pos).one ≢ (modulo q pos).one
@@ -44,7 +44,7 @@ module _ (p q : ℕ) (one-lt : 1 < q) (d : q ∣ p) where
     where
       double : (modulo q pos).add (residue q pos 1) (residue q pos 1) ≡ residue q pos 0
       double =
-          ap ((modulo q pos).add (residue q pos 1)) (sym e) ∙ add-neg (modulo q pos) (modulo·isRing q pos) (residue q pos 1)
+          ap ((modulo q pos).add (residue q pos 1)) (sym e) ∙ add-neg (modulo q pos) (modulo_is_ring q pos) (residue q pos 1)
 
       two : q ≡ 2
       two =
@@ -57,7 +57,7 @@ module _ (p q : ℕ) (one-lt : 1 < q) (d : q ∣ p) where
   pub divisor_bound : (k c : ℕ) → p % 2 ≡ 1 → suc (squares p k c) ≡ p → 2 ^ suc k ≤ q
   divisor_bound k c o e =
       pigeonhole-ℕ (λ i. (pow (modulo q pos) (residue q pos c) i).0) (2 ^ suc k) q (λ i. (pow (modulo q pos) (residue q pos c) i).1)
-      (λ i j l u h. distinct (modulo q pos) (modulo·isRing q pos) (ne o) k (residue q pos c)
+      (λ i j l u h. distinct (modulo q pos) (modulo_is_ring q pos) (ne o) k (residue q pos c)
       (sym (squares_pow k c) ∙ minus_one (squares p k c) e) i j l u (native.Mathlib.Fin.val_path h))
 
 big : (r d : ℕ) {p : ℕ} → r * d ≡ p → 1 < d → d < p → 1 < r

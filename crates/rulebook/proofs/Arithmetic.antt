@@ -12,7 +12,7 @@ use Rattle.algebra.specs.Lists.{Mem, range}
 use Rattle.algebra.specs.Field.{𝔾}
 use Rattle.algebra.specs.Expr.{◌⊖◌, eval}
 use Rattle.algebra.proofs.Ring.{eq_of_sub}
-use Rattle.algebra.proofs.Field.{𝔾·isRing, eq_of_nat}
+use Rattle.algebra.proofs.Field.{𝔾_is_ring, eq_of_nat}
 use Rattle.table.specs.Cells.{Cell, mask_at, lv, mask}
 use Rattle.table.specs.Columns.{NUM-OP-SELECTOR, COL-OPCODE as OPCODE}
 use Rattle.table.specs.SimpleArithmaticOp.{simple_arithmatic_op}
@@ -46,7 +46,7 @@ module _ (x : Cell → ℕ) (canon : (c : Cell) → x c < p) (F : Facts x) (firs
   difference q h e =
       differ q.0 q.1 (ltb-true _ _ (and_left _ _ h)) (ltb-true _ 5 (and_right (ltb q.0 q.1) _ h))
       (eq_of_nat _ _ (canon (mask_at q.0)) (canon (mask_at q.1))
-      (eq_of_sub 𝔾 𝔾·isRing _ _ (sym (poly_is (env x) unknown (unknown_means (env x)) (mask q.0 ⊖ mask q.1)) ∙ e)))
+      (eq_of_sub 𝔾 𝔾_is_ring _ _ (sym (poly_is (env x) unknown (unknown_means (env x)) (mask q.0 ⊖ mask q.1)) ∙ e)))
 
   differences : (qs : List (ℕ × ℕ)) → all (λ q. ltb q.0 q.1 && ltb q.1 5) qs ≡ true → NotZero x (map Plans.mask_difference qs)
   differences [] h = tt

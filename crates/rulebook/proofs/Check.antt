@@ -11,7 +11,7 @@ use Rattle.algebra.specs.Lists.{All}
 use Rattle.algebra.specs.Field.{𝔾}
 use Rattle.algebra.specs.Expr.{Expr, var, con, ◌⊕◌, ◌⊖◌, ◌⊗◌, eval}
 use Rattle.algebra.proofs.Ring.{zero-add, add-zero}
-use Rattle.algebra.proofs.Field.{𝔾·isRing}
+use Rattle.algebra.proofs.Field.{𝔾_is_ring}
 use Rattle.table.specs.Cells.{Cell}
 use Rattle.rulebook.specs.Rule.{Rule, fact, ◌≐◌, deny, ◌and◌, ◌or◌, ◌⇒◌, holds}
 use Rattle.rulebook.proofs.Tests.{bool_ext, and_left, and_right, or_left, or_right, or_cases, not_both, not_intro, by_cond, all, any, all_append, any_append, all_mono, is_zero, is_zero_eq, eq_is_zero, is_zero_mul, is_zero_sub}
@@ -183,9 +183,9 @@ module _ (x : Cell → ℕ) where
     factors_value (con n) = one_factor (con n)
     factors_value (a ⊕ b) =
         by_cond (λ c. clauses_value c ≡ is_zero (eval 𝔾 (env x) (a ⊕ b))) (null (poly σ a)) (factors σ ns b) _
-        (λ h. factors_value b ∙ ap is_zero (sym (ap (λ t. 𝔾.add t (eval 𝔾 (env x) b)) (null_is a h) ∙ zero-add 𝔾 𝔾·isRing _)))
+        (λ h. factors_value b ∙ ap is_zero (sym (ap (λ t. 𝔾.add t (eval 𝔾 (env x) b)) (null_is a h) ∙ zero-add 𝔾 𝔾_is_ring _)))
         (by_cond (λ c. clauses_value c ≡ is_zero (eval 𝔾 (env x) (a ⊕ b))) (null (poly σ b)) (factors σ ns a) _
-        (λ h. factors_value a ∙ ap is_zero (sym (ap (λ t. 𝔾.add (eval 𝔾 (env x) a) t) (null_is b h) ∙ add-zero 𝔾 𝔾·isRing _)))
+        (λ h. factors_value a ∙ ap is_zero (sym (ap (λ t. 𝔾.add (eval 𝔾 (env x) a) t) (null_is b h) ∙ add-zero 𝔾 𝔾_is_ring _)))
         (one_factor (a ⊕ b)))
     factors_value (a ⊖ b) = one_factor (a ⊖ b)
     factors_value (a ⊗ b) =

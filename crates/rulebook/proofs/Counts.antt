@@ -13,7 +13,7 @@ use Rattle.algebra.specs.Lists.{All, Mem, range}
 use Rattle.algebra.specs.Field.{𝔾}
 use Rattle.algebra.specs.Expr.{Expr, var, con, ◌⊖◌, eval}
 use Rattle.algebra.proofs.Ring.{nat-add, eq_of_sub}
-use Rattle.algebra.proofs.Field.{𝔾·isRing, eq_of_nat}
+use Rattle.algebra.proofs.Field.{𝔾_is_ring, eq_of_nat}
 use Rattle.table.specs.Cells.{Cell, local, lv}
 use Rattle.table.specs.Entry.{plus_all, sum}
 use Rattle.rulebook.specs.Rule.{Rule, ◌≐◌, ◌and◌, ◌⇒◌, holds}
@@ -96,7 +96,7 @@ module _ (x : Cell → ℕ) where
     sum_is zero a b = refl
     sum_is (suc n) a b =
         ap (λ t. 𝔾.add t (env x (local (a + n)))) (sum_is n a (λ i l u. b i l (omega arith)))
-        ∙ sym (nat-add 𝔾 𝔾·isRing (ones current a n) (x (local (a + n))))
+        ∙ sym (nat-add 𝔾 𝔾_is_ring (ones current a n) (x (local (a + n))))
         ∙ ap 𝔾.nat (sym (ones-last current n a b))
 
     module _ (n a : ℕ) (l : n < 100) (b : Bits current a n) where
@@ -104,9 +104,9 @@ module _ (x : Cell → ℕ) where
       unfolding eval
       one_of_sum e =
           let u : ones current a n ≤ n = ones-le current n a b in
-          sym (eq_of_nat 1 (ones current a n) (lit< tt) (omega arith) (eq_of_sub 𝔾 𝔾·isRing _ _ e ∙ sum_is n a b))
+          sym (eq_of_nat 1 (ones current a n) (lit< tt) (omega arith) (eq_of_sub 𝔾 𝔾_is_ring _ _ e ∙ sum_is n a b))
 
       pub none_of_sum : eval 𝔾 (env x) (sum (λ i. lv (a + i)) n) ≡ 𝔾.zero → ones current a n ≡ 0
       none_of_sum e =
           let u : ones current a n ≤ n = ones-le current n a b in
-          eq_of_nat (ones current a n) 0 (omega arith) (lit< tt) (sym (sum_is n a b) ∙ e ∙ sym 𝔾·isRing.nat-zero)
+          eq_of_nat (ones current a n) 0 (omega arith) (lit< tt) (sym (sum_is n a b) ∙ e ∙ sym 𝔾_is_ring.nat-zero)

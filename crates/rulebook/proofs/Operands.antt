@@ -13,7 +13,7 @@ use Rattle.algebra.specs.Field.{𝔾}
 use Rattle.algebra.specs.Expr.{Expr, con, ◌⊖◌, ◌⊗◌, eval}
 use Rattle.algebra.specs.Lists.{range}
 use Rattle.algebra.proofs.Ring.{eq_of_sub}
-use Rattle.algebra.proofs.Field.{𝔾·isRing, eq_of_nat}
+use Rattle.algebra.proofs.Field.{𝔾_is_ring, eq_of_nat}
 use Rattle.table.specs.Cells.{Cell, local, lv}
 use Rattle.table.specs.Columns.{REGISTER-NUM, COL-IS-EXT-LINE as IS-EXT-LINE, COL-S-OP0-START as S-OP0, COL-S-OP1-START as S-OP1, COL-S-DST-START as S-DST}
 use Rattle.table.specs.CpuStark.{selector_sum, constraint_operands_mathches_registers}
@@ -97,7 +97,7 @@ module _ (x : Cell → ℕ) (canon : (c : Cell) → x c < p) (F : Facts x) (firs
         or_cases (is_zero (ev (con 1 ⊖ lv IS-EXT-LINE))) (is_zero (ev (selector_sum s))) (sym (is_zero_mul _ _) ∙ t)
         (λ u.
         let never : 1 ≡ current x IS-EXT-LINE =
-        eq_of_nat 1 (current x IS-EXT-LINE) (lit< tt) (canon (local IS-EXT-LINE)) (eq_of_sub 𝔾 𝔾·isRing _ _ (is_zero_eq _ u)) in
+        eq_of_nat 1 (current x IS-EXT-LINE) (lit< tt) (canon (local IS-EXT-LINE)) (eq_of_sub 𝔾 𝔾_is_ring _ _ (is_zero_eq _ u)) in
         absurd (omega arith))
         (λ u. omega (arith, none_of_sum x canon REGISTER-NUM s (lit< tt) b (is_zero_eq _ u))))
         (λ t. omega (arith, one_of_sum x canon REGISTER-NUM s (lit< tt) b (is_zero_eq _ t)))

@@ -11,7 +11,7 @@ use Rattle.algebra.specs.Prime.{p}
 use Rattle.algebra.specs.Field.{𝔾}
 use Rattle.algebra.specs.Expr.{Expr, var, con, ◌⊕◌, ◌⊖◌, ◌⊗◌, eval}
 use Rattle.algebra.proofs.Ring.{ring_laws, nat-add, nat-mul, mul-zero, zero-mul, zero-add, one-mul, mul_left_comm, mul_assoc, add_assoc, add-mul, add_left_comm, eq_of_sub, neg-of_add}
-use Rattle.algebra.proofs.Field.{𝔾·isRing, nat-mod, mod_of_nat, nat-neg}
+use Rattle.algebra.proofs.Field.{𝔾_is_ring, nat-mod, mod_of_nat, nat-neg}
 use Rattle.residue.proofs.Field.{residues→𝔾}
 use Rattle.table.specs.Cells.{Cell}
 use Rattle.rulebook.proofs.Tests.{and_left, and_right, or_cases, by_cond, not_both, is_zero, is_zero_neg}
@@ -129,29 +129,29 @@ module _ (env : Cell → 𝔾.F) where
   insert_value c [] = refl
   insert_value c (d ∷ m) =
       by_cond (λ t. mono_value t ≡ env c * (env d * mono_value m)) (leb (number c) (number d)) (c ∷ d ∷ m) (d ∷ insert c m) (λ _. refl)
-      (ap (λ t. env d * t) (insert_value c m) ∙ mul_left_comm 𝔾 𝔾·isRing (env d) (env c) (mono_value m))
+      (ap (λ t. env d * t) (insert_value c m) ∙ mul_left_comm 𝔾 𝔾_is_ring (env d) (env c) (mono_value m))
 
   join_value : (m n : Mono) → mono_value (join m n) ≡ mono_value m * mono_value n
-  join_value [] n = sym (one-mul 𝔾 𝔾·isRing (mono_value n))
+  join_value [] n = sym (one-mul 𝔾 𝔾_is_ring (mono_value n))
   join_value (c ∷ m) n =
       insert_value c (join m n)
       ∙ ap (λ t. env c * t) (join_value m n)
-      ∙ sym (mul_assoc 𝔾 𝔾·isRing (env c) (mono_value m) (mono_value n))
+      ∙ sym (mul_assoc 𝔾 𝔾_is_ring (env c) (mono_value m) (mono_value n))
 
   none_ident : (m q : F) → 𝟘 * m + q ≡ q
-  none_ident m q = simp (ring_laws, 𝔾·isRing)
+  none_ident m q = simp (ring_laws, 𝔾_is_ring)
 
   keep_value : (m : Mono) (c : ℕ) (q : Poly) → poly_value (keep m c q) ≡ nat c * mono_value m + poly_value q
   keep_value m c q =
       by_cond (λ t. poly_value t ≡ nat c * mono_value m + poly_value q) (eqb c 0) q ((m, c) ∷ q)
       (λ h.
       sym
-      (ap (λ t. t * mono_value m + poly_value q) (ap nat (eqb-true c 0 h) ∙ 𝔾·isRing.nat-zero)
+      (ap (λ t. t * mono_value m + poly_value q) (ap nat (eqb-true c 0 h) ∙ 𝔾_is_ring.nat-zero)
       ∙ none_ident (mono_value m) (poly_value q)))
       refl
 
   add_ident : (c d m q : F) → (c + d) * m + q ≡ c * m + (d * m + q)
-  add_ident c d m q = simp (ring_laws, 𝔾·isRing)
+  add_ident c d m q = simp (ring_laws, 𝔾_is_ring)
 
   add_term_value : (m : Mono) (c : ℕ) (q : Poly) → poly_value (add_term m c q) ≡ nat c * mono_value m + poly_value q
   add_term_value m c [] = keep_value m c []
@@ -162,37 +162,37 @@ module _ (env : Cell → 𝔾.F) where
       (t ∷ add_term m c q)
       (λ h.
       keep_value t.0 sum q
-      ∙ ap (λ s. s * mono_value t.0 + poly_value q) (nat-mod (N.◌+◌ c t.1) ∙ nat-add 𝔾 𝔾·isRing c t.1)
+      ∙ ap (λ s. s * mono_value t.0 + poly_value q) (nat-mod (N.◌+◌ c t.1) ∙ nat-add 𝔾 𝔾_is_ring c t.1)
       ∙ add_ident (nat c) (nat t.1) (mono_value t.0) (poly_value q)
       ∙ ap (λ s. nat c * mono_value s + (nat t.1 * mono_value t.0 + poly_value q)) (sym (same_mono_eq m t.0 h)))
       (ap (λ s. nat t.1 * mono_value t.0 + s) (add_term_value m c q)
-      ∙ add_left_comm 𝔾 𝔾·isRing (nat t.1 * mono_value t.0) (nat c * mono_value m) (poly_value q))
+      ∙ add_left_comm 𝔾 𝔾_is_ring (nat t.1 * mono_value t.0) (nat c * mono_value m) (poly_value q))
 
   pub plus-value : (q r : Poly) → poly_value (plus q r) ≡ poly_value q + poly_value r
-  plus-value [] r = sym (zero-add 𝔾 𝔾·isRing (poly_value r))
+  plus-value [] r = sym (zero-add 𝔾 𝔾_is_ring (poly_value r))
   plus-value (t ∷ q) r =
       add_term_value t.0 t.1 (plus q r)
       ∙ ap (λ s. nat t.1 * mono_value t.0 + s) (plus-value q r)
-      ∙ sym (add_assoc 𝔾 𝔾·isRing (nat t.1 * mono_value t.0) (poly_value q) (poly_value r))
+      ∙ sym (add_assoc 𝔾 𝔾_is_ring (nat t.1 * mono_value t.0) (poly_value q) (poly_value r))
 
   scale_ident : (c d m n q : F) → c * d * (m * n) + c * m * q ≡ c * m * (d * n + q)
-  scale_ident c d m n q = simp (ring_laws, 𝔾·isRing)
+  scale_ident c d m n q = simp (ring_laws, 𝔾_is_ring)
 
   scale_value : (m : Mono) (c : ℕ) (q : Poly) → poly_value (scale m c q) ≡ nat c * mono_value m * poly_value q
-  scale_value m c [] = sym (mul-zero 𝔾 𝔾·isRing (nat c * mono_value m))
+  scale_value m c [] = sym (mul-zero 𝔾 𝔾_is_ring (nat c * mono_value m))
   scale_value m c (t ∷ q) =
-      ap₂ ◌+◌ (ap₂ ◌*◌ (nat-mod (N.◌*◌ c t.1) ∙ nat-mul 𝔾 𝔾·isRing c t.1) (join_value m t.0)) (scale_value m c q)
+      ap₂ ◌+◌ (ap₂ ◌*◌ (nat-mod (N.◌*◌ c t.1) ∙ nat-mul 𝔾 𝔾_is_ring c t.1) (join_value m t.0)) (scale_value m c q)
       ∙ scale_ident (nat c) (nat t.1) (mono_value m) (mono_value t.0) (poly_value q)
 
   times-value : (q r : Poly) → poly_value (times q r) ≡ poly_value q * poly_value r
-  times-value [] r = sym (zero-mul 𝔾 𝔾·isRing (poly_value r))
+  times-value [] r = sym (zero-mul 𝔾 𝔾_is_ring (poly_value r))
   times-value (t ∷ q) r =
       plus-value (scale t.0 t.1 r) (times q r)
       ∙ ap₂ ◌+◌ (scale_value t.0 t.1 r) (times-value q r)
-      ∙ sym (add-mul 𝔾 𝔾·isRing (nat t.1 * mono_value t.0) (poly_value q) (poly_value r))
+      ∙ sym (add-mul 𝔾 𝔾_is_ring (nat t.1 * mono_value t.0) (poly_value q) (poly_value r))
 
   negate_ident : (q : F) → - 𝟙 * 𝟙 * q ≡ - q
-  negate_ident q = simp (ring_laws, 𝔾·isRing)
+  negate_ident q = simp (ring_laws, 𝔾_is_ring)
 
   pub negate_value : (q : Poly) → poly_value (negate q) ≡ - poly_value q
   negate_value q =
@@ -201,13 +201,13 @@ module _ (env : Cell → 𝔾.F) where
       ∙ negate_ident (poly_value q)
 
   constant_ident : (c : F) → c * 𝟙 + 𝟘 ≡ c
-  constant_ident c = simp (ring_laws, 𝔾·isRing)
+  constant_ident c = simp (ring_laws, 𝔾_is_ring)
 
   pub constant_value : (n : ℕ) → poly_value (constant n) ≡ nat n
   constant_value n = keep_value [] (n % p) [] ∙ constant_ident (nat (n % p)) ∙ nat-mod n
 
   unknown_ident : (x : F) → 𝟙 * (x * 𝟙) + 𝟘 ≡ x
-  unknown_ident x = simp (ring_laws, 𝔾·isRing)
+  unknown_ident x = simp (ring_laws, 𝔾_is_ring)
 
   -- each cell comes to what it holds
   abbrev pub Means : (Cell → Poly) → Type 0
@@ -231,7 +231,7 @@ module _ (env : Cell → 𝔾.F) where
 
   unit_mono_value : (m : Mono) (c : ℕ) → unit_mono m c ≡ true → nat c * mono_value m + 𝟘 ≢ 𝟘
   unit_mono_value [] c h e =
-      not_both (eqb (c % p) 0) h (eq-eqb (c % p) 0 (mod_of_nat c 0 (sym (constant_ident (nat c)) ∙ e ∙ sym 𝔾·isRing.nat-zero)))
+      not_both (eqb (c % p) 0) h (eq-eqb (c % p) 0 (mod_of_nat c 0 (sym (constant_ident (nat c)) ∙ e ∙ sym 𝔾_is_ring.nat-zero)))
   unit_mono_value (i ∷ m) c h e = true≢false (sym h)
 
   pub unit_value : (q : Poly) → unit q ≡ true → poly_value q ≢ 𝟘
@@ -245,9 +245,9 @@ module _ (env : Cell → 𝔾.F) where
       or_cases (null (plus q (negate r))) (null (plus q r)) h
       (λ t.
       ap is_zero
-      (eq_of_sub 𝔾 𝔾·isRing (poly_value q) (poly_value r)
+      (eq_of_sub 𝔾 𝔾_is_ring (poly_value q) (poly_value r)
       (ap (λ s. poly_value q + s) (sym (negate_value r)) ∙ sym (plus-value q (negate r)) ∙ null_value (plus q (negate r)) t)))
       (λ t.
       sym
-      (ap is_zero (neg-of_add 𝔾 𝔾·isRing (poly_value q) (poly_value r) (sym (plus-value q r) ∙ null_value (plus q r) t))
+      (ap is_zero (neg-of_add 𝔾 𝔾_is_ring (poly_value q) (poly_value r) (sym (plus-value q r) ∙ null_value (plus q r) t))
       ∙ is_zero_neg (poly_value q)))

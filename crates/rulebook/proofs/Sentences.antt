@@ -11,7 +11,7 @@ use Rattle.algebra.specs.Lists.{All}
 use Rattle.algebra.specs.Field.{𝔾}
 use Rattle.algebra.specs.Expr.{Expr, con, eval}
 use Rattle.algebra.proofs.Lists.{below}
-use Rattle.algebra.proofs.Field.{𝔾·isRing}
+use Rattle.algebra.proofs.Field.{𝔾_is_ring}
 use Rattle.refusals.specs.Refusal.{member}
 use Rattle.table.specs.Cells.{Cell, z_last}
 use Rattle.table.specs.Entry.{Kind, plain, transition, first, Entry, constraint}
@@ -117,7 +117,7 @@ module _ (x : Cell → ℕ) (first last : Bool) where
   -- where all values are zero, so are those that are selected; and all are, where every one is among the selected
   pub entry_at : (vs : List Entry) (i : ℕ) → zero_entries vs ≡ true → zero_entry (get_or vs i (constraint (con 0))) ≡ true
   unfolding eval
-  entry_at vs i h = all_get_d zero_entry vs (constraint (con 0)) i (eq_is_zero (𝔾.nat 0) 𝔾·isRing.nat-zero) h
+  entry_at vs i h = all_get_d zero_entry vs (constraint (con 0)) i (eq_is_zero (𝔾.nat 0) 𝔾_is_ring.nat-zero) h
 
   selected : (vs : List Entry) (is : List ℕ) → zero_entries vs ≡ true → zero_entries (select vs is) ≡ true
   selected vs [] h = refl

@@ -12,7 +12,7 @@ use Rattle.algebra.specs.Field.{𝔾}
 use Rattle.algebra.specs.Expr.{Expr, var, con, ◌⊖◌, eval}
 use Rattle.algebra.proofs.Ring.{eq_of_sub}
 use Rattle.algebra.proofs.Lists.{below}
-use Rattle.algebra.proofs.Field.{𝔾·isRing, 𝔾·isDomain}
+use Rattle.algebra.proofs.Field.{𝔾_is_ring, 𝔾_is_domain}
 use Rattle.table.specs.Cells.{Cell}
 use Rattle.rulebook.specs.Rule.{Rule, holds}
 use Rattle.rulebook.proofs.Tests.{and_left, and_right, by_cond, all}
@@ -97,7 +97,7 @@ module _ (x : Cell → ℕ) where
   less_one : (c : Cell) (σ : Cell → Poly) → Means (env x) σ
       → poly_value (env x) (poly σ (var c ⊖ con 1)) ≡ 𝔾.zero → env x c ≡ 𝔾.nat 1
   unfolding eval
-  less_one c σ m z = eq_of_sub 𝔾 𝔾·isRing (env x c) (𝔾.nat 1) (sym (poly_is (env x) σ m (var c ⊖ con 1)) ∙ z)
+  less_one c σ m z = eq_of_sub 𝔾 𝔾_is_ring (env x c) (𝔾.nat 1) (sym (poly_is (env x) σ m (var c ⊖ con 1)) ∙ z)
 
   -- the values are zero exactly where the rule holds
   abbrev Seen : List (Expr Cell) → Rule → Type 0
@@ -123,12 +123,12 @@ module _ (x : Cell → ℕ) where
       let qs : List Poly = poly σ (var c) ∷ poly σ (var c ⊖ con 1) ∷ ns in
       let t : (checks ss (put c (constant 1) σ) ns es r && checks ss σ qs es r) ≡ true =
       and_right (checks ss (put c (constant 0) σ) ns es r) _ h in
-      go (𝔾·isDomain.discrete (env x c) (𝔾.nat 0)) (𝔾·isDomain.discrete (env x c) (𝔾.nat 1))
+      go (𝔾_is_domain.discrete (env x c) (𝔾.nat 0)) (𝔾_is_domain.discrete (env x c) (𝔾.nat 1))
       (λ e. checks_is ss (put c (constant 0) σ) ns es r fs.1 (put-number c 0 σ e m) n (and_left _ _ h))
       (λ e. checks_is ss (put c (constant 1) σ) ns es r fs.1 (put-number c 1 σ e m) n (and_left _ _ t))
       (λ d e.
       checks_is ss σ qs es r fs.1 m
-      ((λ z. d (sym (m c) ∙ z ∙ sym 𝔾·isRing.nat-zero)), ((λ z. e (less_one c σ m z)), n))
+      ((λ z. d (sym (m c) ∙ z ∙ sym 𝔾_is_ring.nat-zero)), ((λ z. e (less_one c σ m z)), n))
       (and_right (checks ss (put c (constant 1) σ) ns es r) _ t))
     where
       go : Dec (env x c ≡ 𝔾.nat 0) → Dec (env x c ≡ 𝔾.nat 1) → (env x c ≡ 𝔾.nat 0 → Seen es r) → (env x c ≡ 𝔾.nat 1 → Seen es r)

@@ -11,7 +11,7 @@ use Rattle.algebra.specs.Ring.{sub}
 use Rattle.algebra.specs.Lists.{All}
 use Rattle.algebra.specs.Field.{𝔾, val}
 use Rattle.algebra.proofs.Ring.{zero-mul, mul-zero, eq_of_sub, sub_of_eq, neg-neg, neg-zero}
-use Rattle.algebra.proofs.Field.{𝔾·isRing, 𝔾·isDomain, val-nat, nat-val}
+use Rattle.algebra.proofs.Field.{𝔾_is_ring, 𝔾_is_domain, val-nat, nat-val}
 
 pub true_of : (b : Bool) → T b → b ≡ true
 true_of true t = refl
@@ -112,7 +112,7 @@ pub eq-same : (a b : 𝔾.F) → a ≡ b → same a b ≡ true
 eq-same a b e = eq-eqb (val a) (val b) (ap val e)
 
 val-zero : val 𝔾.zero ≡ 0
-val-zero = ap val (sym 𝔾·isRing.nat-zero) ∙ val-nat 0
+val-zero = ap val (sym 𝔾_is_ring.nat-zero) ∙ val-nat 0
 
 pub is_zero_eq : (a : 𝔾.F) → is_zero a ≡ true → a ≡ 𝔾.zero
 is_zero_eq a t = same-eq a 𝔾.zero (rw val-zero t)
@@ -122,11 +122,11 @@ eq_is_zero a e = rw val-zero at (eq-same a 𝔾.zero e)
 
 pub is_zero_mul : (a b : 𝔾.F) → is_zero (𝔾.mul a b) ≡ (is_zero a || is_zero b)
 is_zero_mul a b =
-    bool_ext _ _ (λ t. to (𝔾·isDomain.mul-eq-zero a b (is_zero_eq _ t)))
+    bool_ext _ _ (λ t. to (𝔾_is_domain.mul-eq-zero a b (is_zero_eq _ t)))
     (λ t.
     or_cases (is_zero a) (is_zero b) t
-    (λ u. eq_is_zero _ (ap (λ s. 𝔾.mul s b) (is_zero_eq a u) ∙ zero-mul 𝔾 𝔾·isRing b))
-    (λ u. eq_is_zero _ (ap (λ s. 𝔾.mul a s) (is_zero_eq b u) ∙ mul-zero 𝔾 𝔾·isRing a)))
+    (λ u. eq_is_zero _ (ap (λ s. 𝔾.mul s b) (is_zero_eq a u) ∙ zero-mul 𝔾 𝔾_is_ring b))
+    (λ u. eq_is_zero _ (ap (λ s. 𝔾.mul a s) (is_zero_eq b u) ∙ mul-zero 𝔾 𝔾_is_ring a)))
   where
     to : (a ≡ 𝔾.zero) ⊎ (b ≡ 𝔾.zero) → (is_zero a || is_zero b) ≡ true
     to (inl e) = or_left _ _ (eq_is_zero a e)
@@ -134,11 +134,11 @@ is_zero_mul a b =
 
 pub is_zero_sub : (a b : 𝔾.F) → is_zero (sub 𝔾 a b) ≡ same a b
 is_zero_sub a b =
-    bool_ext _ _ (λ t. eq-same a b (eq_of_sub 𝔾 𝔾·isRing a b (is_zero_eq _ t)))
-    (λ t. eq_is_zero _ (sub_of_eq 𝔾 𝔾·isRing a b (same-eq a b t)))
+    bool_ext _ _ (λ t. eq-same a b (eq_of_sub 𝔾 𝔾_is_ring a b (is_zero_eq _ t)))
+    (λ t. eq_is_zero _ (sub_of_eq 𝔾 𝔾_is_ring a b (same-eq a b t)))
 
 pub is_zero_neg : (a : 𝔾.F) → is_zero (𝔾.neg a) ≡ is_zero a
 is_zero_neg a =
     bool_ext _ _
-    (λ t. eq_is_zero a (sym (neg-neg 𝔾 𝔾·isRing a) ∙ ap 𝔾.neg (is_zero_eq _ t) ∙ neg-zero 𝔾 𝔾·isRing))
-    (λ t. eq_is_zero _ (ap 𝔾.neg (is_zero_eq a t) ∙ neg-zero 𝔾 𝔾·isRing))
+    (λ t. eq_is_zero a (sym (neg-neg 𝔾 𝔾_is_ring a) ∙ ap 𝔾.neg (is_zero_eq _ t) ∙ neg-zero 𝔾 𝔾_is_ring))
+    (λ t. eq_is_zero _ (ap 𝔾.neg (is_zero_eq a t) ∙ neg-zero 𝔾 𝔾_is_ring))

@@ -10,8 +10,8 @@ use Rattle.parts.proofs.Registers.{registers}
 use Rattle.cpu_after_call_sc.proofs.after_call_sc.call_sc_ctx_regs.Statement.{statement}
 use Rattle.cpu_after_call_sc.proofs.after_call_sc.call_sc_ctx_regs.Tie as tie
 
-local-row : (c : tie.Start) → Row c.args.lv.now
-local-row c = c.requires.0.local
+local_row : (c : tie.Start) → Row c.args.lv.now
+local_row c = c.requires.0.local
 
 next_row : (c : tie.Start) → Row c.args.nv.now
 next_row c = c.requires.0.next
@@ -19,12 +19,12 @@ next_row c = c.requires.0.next
 factor : (c : tie.Start) → ValuesOf row_factors c.args.lv.now c.args.nv.now c.args.factors.now
 factor c = shared_of c.requires.1 _ tt
 
-factor-place : (c : tie.Start) → PlacesOf row_factors c.args.factors.now
-factor-place c = shared_place c.requires.1
+factor_place : (c : tie.Start) → PlacesOf row_factors c.args.factors.now
+factor_place c = shared_place c.requires.1
 
 returns : tie.Need-returns
 unfolding call_sc_ctx_regs
 returns c = sym (search (exprs, registers, factor) depth 100 fits 100000)
 
 pub call_sc_ctx_regs_spec : {M : Type 1} → statement M
-call_sc_ctx_regs_spec = tie.close (search (tie.spec, returns, places, factor-place, local-row, next_row))
+call_sc_ctx_regs_spec = tie.close (search (tie.spec, returns, places, factor_place, local_row, next_row))

@@ -11,21 +11,21 @@ use Rattle.cpu_factors.specs.Factors.{call_sc_main_line, row_factors}
 use Rattle.cpu_call_sc.proofs.call_sc.call_sc_addresses.Statement.{statement}
 use Rattle.cpu_call_sc.proofs.call_sc.call_sc_addresses.Tie as tie
 
-local-row : (c : tie.Start) → Row c.args.lv.now
-local-row c = c.requires.0.local
+local_row : (c : tie.Start) → Row c.args.lv.now
+local_row c = c.requires.0.local
 
 next_row : (c : tie.Start) → Row c.args.nv.now
 next_row c = c.requires.0.next
 
-main-line : (c : tie.Start) → ValueOf call_sc_main_line c.args.lv.now c.args.nv.now (get_or c.args.factors.now 0 0)
-main-line c = shared_of c.requires.1 _ tt 0 _ refl
+main_line : (c : tie.Start) → ValueOf call_sc_main_line c.args.lv.now c.args.nv.now (get_or c.args.factors.now 0 0)
+main_line c = shared_of c.requires.1 _ tt 0 _ refl
 
-factor-place : (c : tie.Start) → PlacesOf row_factors c.args.factors.now
-factor-place c = shared_place c.requires.1
+factor_place : (c : tie.Start) → PlacesOf row_factors c.args.factors.now
+factor_place c = shared_place c.requires.1
 
 returns : tie.Need-returns
 unfolding values each call_sc_addresses
-returns c = sym (search (exprs, part_of, main-line, tt) depth 100 fits 100000)
+returns c = sym (search (exprs, part_of, main_line, tt) depth 100 fits 100000)
 
 pub call_sc_addresses_spec : {M : Type 1} → statement M
-call_sc_addresses_spec = tie.close (search (tie.spec, returns, places, factor-place, local-row, next_row))
+call_sc_addresses_spec = tie.close (search (tie.spec, returns, places, factor_place, local_row, next_row))

@@ -8,8 +8,8 @@ use Rattle.table.proofs.Rows.{places}
 use Rattle.cpu_context.proofs.body.body_tx_idx.Statement.{statement}
 use Rattle.cpu_context.proofs.body.body_tx_idx.Tie as tie
 
-local-row : (c : tie.Start) → Row c.args.lv.now
-local-row c = c.requires.0.local
+local_row : (c : tie.Start) → Row c.args.lv.now
+local_row c = c.requires.0.local
 
 next_row : (c : tie.Start) → Row c.args.nv.now
 next_row c = c.requires.0.next
@@ -19,4 +19,4 @@ unfolding values body_tx_idx
 returns c = sym (search exprs depth 100 fits 100000)
 
 pub body_tx_idx_spec : {M : Type 1} → statement M
-body_tx_idx_spec = tie.close (search (tie.spec, returns, places, local-row, next_row))
+body_tx_idx_spec = tie.close (search (tie.spec, returns, places, local_row, next_row))

@@ -8,8 +8,8 @@ use Rattle.table.proofs.Rows.{places}
 use Rattle.cpu_context.proofs.env_idx.constraint_env_idx.Statement.{statement}
 use Rattle.cpu_context.proofs.env_idx.constraint_env_idx.Tie as tie
 
-local-row : (c : tie.Start) → Row c.args.lv.now
-local-row c = c.requires.0.local
+local_row : (c : tie.Start) → Row c.args.lv.now
+local_row c = c.requires.0.local
 
 next_row : (c : tie.Start) → Row c.args.nv.now
 next_row c = c.requires.0.next
@@ -19,4 +19,4 @@ unfolding values constraint_env_idx
 returns c = sym (search exprs depth 100 fits 100000)
 
 pub constraint_env_idx_spec : {M : Type 1} → statement M
-constraint_env_idx_spec = tie.close (search (tie.spec, returns, places, local-row, next_row))
+constraint_env_idx_spec = tie.close (search (tie.spec, returns, places, local_row, next_row))

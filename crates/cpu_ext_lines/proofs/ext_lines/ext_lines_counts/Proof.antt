@@ -12,8 +12,8 @@ use Rattle.cpu_wrapper.proofs.Calls.{helpers, is-ext_inst_below}
 use Rattle.cpu_ext_lines.proofs.ext_lines.ext_lines_counts.Statement.{statement}
 use Rattle.cpu_ext_lines.proofs.ext_lines.ext_lines_counts.Tie as tie
 
-local-row : (c : tie.Start) → Row c.args.lv.now
-local-row c = c.requires.0.local
+local_row : (c : tie.Start) → Row c.args.lv.now
+local_row c = c.requires.0.local
 
 next_row : (c : tie.Start) → Row c.args.nv.now
 next_row c = c.requires.0.next
@@ -31,4 +31,4 @@ unfolding values ext_lines_counts
 returns c = sym (search (exprs, helpers, length) depth 100 fits 100000)
 
 pub ext_lines_counts_spec : {M : Type 1} → statement M
-ext_lines_counts_spec = tie.close (search (tie.spec, returns, places, is-ext_inst_below, length-below, local-row, next_row))
+ext_lines_counts_spec = tie.close (search (tie.spec, returns, places, is-ext_inst_below, length-below, local_row, next_row))

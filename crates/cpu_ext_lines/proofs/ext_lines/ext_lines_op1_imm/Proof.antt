@@ -8,8 +8,8 @@ use Rattle.table.proofs.Rows.{places}
 use Rattle.cpu_ext_lines.proofs.ext_lines.ext_lines_op1_imm.Statement.{statement}
 use Rattle.cpu_ext_lines.proofs.ext_lines.ext_lines_op1_imm.Tie as tie
 
-local-row : (c : tie.Start) → Row c.args.lv.now
-local-row c = c.requires.local
+local_row : (c : tie.Start) → Row c.args.lv.now
+local_row c = c.requires.local
 
 next_row : (c : tie.Start) → Row c.args.nv.now
 next_row c = c.requires.next
@@ -19,4 +19,4 @@ unfolding values ext_lines_op1_imm
 returns c = sym (search exprs depth 100 fits 100000)
 
 pub ext_lines_op1_imm_spec : {M : Type 1} → statement M
-ext_lines_op1_imm_spec = tie.close (search (tie.spec, returns, places, local-row, next_row))
+ext_lines_op1_imm_spec = tie.close (search (tie.spec, returns, places, local_row, next_row))

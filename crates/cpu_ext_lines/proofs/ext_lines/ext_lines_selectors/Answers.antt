@@ -18,8 +18,8 @@ use Rattle.cpu_ext_lines.proofs.Laws.{kept_of}
 use Rattle.cpu_ext_lines.proofs.ext_lines.ext_lines_selectors.Goals as goal
 use Rattle.cpu_ext_lines.proofs.ext_lines.ext_lines_selectors.Goals.{Start}
 
-local-row : (c : Start) → Row c.args.lv.now
-local-row c = c.requires.local
+local_row : (c : Start) → Row c.args.lv.now
+local_row c = c.requires.local
 
 next_row : (c : Start) → Row c.args.nv.now
 next_row c = c.requires.next
@@ -28,7 +28,7 @@ pub loop-i-init : goal.loop-i-init
 loop-i-init c = (omega arith, refl, search up_to-none)
 
 pub sub-requires : goal.sub-requires
-sub-requires c = search (both, part-below, local-row, next_row)
+sub-requires c = search (both, part-below, local_row, next_row)
 
 pub loop-i-preserved : goal.loop-i-preserved
 loop-i-preserved c =

@@ -8,8 +8,8 @@ use Rattle.table.proofs.Rows.{places}
 use Rattle.cpu_flow.proofs.env_unchanged.constraint_env_unchanged_clk.Statement.{statement}
 use Rattle.cpu_flow.proofs.env_unchanged.constraint_env_unchanged_clk.Tie as tie
 
-local-row : (c : tie.Start) → Row c.args.lv.now
-local-row c = c.requires.local
+local_row : (c : tie.Start) → Row c.args.lv.now
+local_row c = c.requires.local
 
 next_row : (c : tie.Start) → Row c.args.nv.now
 next_row c = c.requires.next
@@ -19,4 +19,4 @@ unfolding values constraint_env_unchanged_clk
 returns c = sym (search exprs depth 100 fits 100000)
 
 pub constraint_env_unchanged_clk_spec : {M : Type 1} → statement M
-constraint_env_unchanged_clk_spec = tie.close (search (tie.spec, returns, places, local-row, next_row))
+constraint_env_unchanged_clk_spec = tie.close (search (tie.spec, returns, places, local_row, next_row))

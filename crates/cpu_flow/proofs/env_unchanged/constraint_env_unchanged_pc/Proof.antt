@@ -11,8 +11,8 @@ use Rattle.cpu_flow.proofs.Calls.{pc_next_of, pc_next-below}
 use Rattle.cpu_flow.proofs.env_unchanged.constraint_env_unchanged_pc.Statement.{statement}
 use Rattle.cpu_flow.proofs.env_unchanged.constraint_env_unchanged_pc.Tie as tie
 
-local-row : (c : tie.Start) → Row c.args.lv.now
-local-row c = c.requires.0.local
+local_row : (c : tie.Start) → Row c.args.lv.now
+local_row c = c.requires.0.local
 
 next_row : (c : tie.Start) → Row c.args.nv.now
 next_row c = c.requires.0.next
@@ -25,4 +25,4 @@ unfolding values constraint_env_unchanged_pc
 returns c = sym (search (exprs, pc_next_of, clk) depth 100 fits 100000)
 
 pub constraint_env_unchanged_pc_spec : {M : Type 1} → statement M
-constraint_env_unchanged_pc_spec = tie.close (search (tie.spec, returns, places, pc_next-below, local-row, next_row))
+constraint_env_unchanged_pc_spec = tie.close (search (tie.spec, returns, places, pc_next-below, local_row, next_row))

@@ -10,15 +10,15 @@ use Rattle.cpu_instruction.proofs.Calls.{helpers, helpers_below}
 use Rattle.cpu_instruction.proofs.operands.operand_sums.Statement.{statement}
 use Rattle.cpu_instruction.proofs.operands.operand_sums.Tie as tie
 
-local-row : (c : tie.Start) → Row c.args.lv.now
-local-row c = c.requires.local
+local_row : (c : tie.Start) → Row c.args.lv.now
+local_row c = c.requires.local
 
 next_row : (c : tie.Start) → Row c.args.nv.now
 next_row c = c.requires.next
 
 returns : tie.Need-returns
 unfolding values operand_sums
-returns c = sym (search (exprs, helpers, part_length, local-row, tt) depth 100 fits 100000)
+returns c = sym (search (exprs, helpers, part_length, local_row, tt) depth 100 fits 100000)
 
 pub operand_sums_spec : {M : Type 1} → statement M
-operand_sums_spec = tie.close (search (tie.spec, returns, places, loop_places, helpers_below, local-row, next_row))
+operand_sums_spec = tie.close (search (tie.spec, returns, places, loop_places, helpers_below, local_row, next_row))

@@ -20,8 +20,8 @@ use Rattle.cpu_registers.proofs.Calls.{multi_reg_change-below}
 use Rattle.cpu_registers.proofs.reg_consistency.dst_reg_changes.Goals as goal
 use Rattle.cpu_registers.proofs.reg_consistency.dst_reg_changes.Goals.{Start}
 
-local-row : (c : Start) → Row c.args.lv.now
-local-row c = c.requires.rows.local
+local_row : (c : Start) → Row c.args.lv.now
+local_row c = c.requires.rows.local
 
 next_row : (c : Start) → Row c.args.nv.now
 next_row c = c.requires.rows.next
@@ -33,7 +33,7 @@ unfolding eval sub_p multi_reg_change
 weight l n z p q r = sym (p ∙ ap (λ (t : ℕ). mul_p t z) (q ∙ ap (sub_p 1) r))
 
 pub multi_reg_change-requires : goal.multi_reg_change-requires
-multi_reg_change-requires c = search local-row
+multi_reg_change-requires c = search local_row
 
 pub sub-requires : goal.sub-requires
 sub-requires c = search (places, multi_reg_change-below)
@@ -42,10 +42,10 @@ pub loop-i-init : goal.loop-i-init
 loop-i-init c = (omega arith, refl, search up_to-none)
 
 pub one_minus-requires : goal.one_minus-requires
-one_minus-requires c = search (part-below, local-row)
+one_minus-requires c = search (part-below, local_row)
 
 pub sub-requires-in-loop-i : goal.sub-requires-in-loop-i
-sub-requires-in-loop-i c = search (places, part-below, local-row, next_row)
+sub-requires-in-loop-i c = search (places, part-below, local_row, next_row)
 
 pub loop-i-preserved : goal.loop-i-preserved
 loop-i-preserved c =

@@ -8,8 +8,8 @@ use Rattle.table.proofs.Rows.{places}
 use Rattle.cpu_registers.proofs.reg_consistency.fp_consistency.Statement.{statement}
 use Rattle.cpu_registers.proofs.reg_consistency.fp_consistency.Tie as tie
 
-local-row : (c : tie.Start) → Row c.args.lv.now
-local-row c = c.requires.0.local
+local_row : (c : tie.Start) → Row c.args.lv.now
+local_row c = c.requires.0.local
 
 next_row : (c : tie.Start) → Row c.args.nv.now
 next_row c = c.requires.0.next
@@ -19,4 +19,4 @@ unfolding values fp_consistency
 returns c = sym (search (exprs, part_of, tt) depth 100 fits 100000)
 
 pub fp_consistency_spec : {M : Type 1} → statement M
-fp_consistency_spec = tie.close (search (tie.spec, returns, places, local-row, next_row))
+fp_consistency_spec = tie.close (search (tie.spec, returns, places, local_row, next_row))

@@ -17,14 +17,14 @@ use Rattle.cpu_factors.specs.Factors.{tape_ext_line, row_factors}
 use Rattle.cpu_tp.proofs.tp.tape_filter.Statement.{statement}
 use Rattle.cpu_tp.proofs.tp.tape_filter.Tie as tie
 
-local-row : (c : tie.Start) → Row c.args.lv.now
-local-row c = c.requires.0
+local_row : (c : tie.Start) → Row c.args.lv.now
+local_row c = c.requires.0
 
 factor : (c : tie.Start) → ValuesOf row_factors c.args.lv.now [] c.args.factors.now
 factor c = shared_of c.requires.1 [] tt
 
-factor-place : (c : tie.Start) → PlacesOf row_factors c.args.factors.now
-factor-place c = shared_place c.requires.1
+factor_place : (c : tie.Start) → PlacesOf row_factors c.args.factors.now
+factor_place c = shared_place c.requires.1
 
 -- the table has the selectors of this factor the other way about
 turned : (env : Cell → ℕ) {x : ℕ} → eval residues env tape_ext_line ≡ x →
@@ -37,4 +37,4 @@ unfolding values tape_filter
 returns c = sym (search (exprs, factor, turned) depth 100 fits 100000)
 
 pub tape_filter_spec : {M : Type 1} → statement M
-tape_filter_spec = tie.close (search (tie.spec, returns, places, factor-place, local-row))
+tape_filter_spec = tie.close (search (tie.spec, returns, places, factor_place, local_row))

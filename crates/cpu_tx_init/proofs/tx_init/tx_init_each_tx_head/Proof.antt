@@ -8,8 +8,8 @@ use Rattle.table.proofs.Rows.{places}
 use Rattle.cpu_tx_init.proofs.tx_init.tx_init_each_tx_head.Statement.{statement}
 use Rattle.cpu_tx_init.proofs.tx_init.tx_init_each_tx_head.Tie as tie
 
-local-row : (c : tie.Start) → Row c.args.lv.now
-local-row c = c.requires.0.local
+local_row : (c : tie.Start) → Row c.args.lv.now
+local_row c = c.requires.0.local
 
 next_row : (c : tie.Start) → Row c.args.nv.now
 next_row c = c.requires.0.next
@@ -19,4 +19,4 @@ unfolding values tx_init_each_tx_head
 returns c = sym (search exprs depth 100 fits 100000)
 
 pub tx_init_each_tx_head_spec : {M : Type 1} → statement M
-tx_init_each_tx_head_spec = tie.close (search (tie.spec, returns, places, local-row, next_row))
+tx_init_each_tx_head_spec = tie.close (search (tie.spec, returns, places, local_row, next_row))

@@ -8,8 +8,8 @@ use Rattle.parts.proofs.Registers.{registers}
 use Rattle.cpu_tx_init.proofs.tx_init.tx_init_each_tx_regs.Statement.{statement}
 use Rattle.cpu_tx_init.proofs.tx_init.tx_init_each_tx_regs.Tie as tie
 
-local-row : (c : tie.Start) → Row c.args.lv.now
-local-row c = c.requires.0.local
+local_row : (c : tie.Start) → Row c.args.lv.now
+local_row c = c.requires.0.local
 
 next_row : (c : tie.Start) → Row c.args.nv.now
 next_row c = c.requires.0.next
@@ -19,4 +19,4 @@ unfolding tx_init_each_tx_regs
 returns c = sym (search (exprs, registers) depth 100 fits 100000)
 
 pub tx_init_each_tx_regs_spec : {M : Type 1} → statement M
-tx_init_each_tx_regs_spec = tie.close (search (tie.spec, returns, places, local-row, next_row))
+tx_init_each_tx_regs_spec = tie.close (search (tie.spec, returns, places, local_row, next_row))

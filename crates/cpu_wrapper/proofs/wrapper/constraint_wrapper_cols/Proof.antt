@@ -11,8 +11,8 @@ use Rattle.table.proofs.Shared.{ValueOf, shared_of, shared_below}
 use Rattle.cpu_wrapper.proofs.wrapper.constraint_wrapper_cols.Statement.{statement}
 use Rattle.cpu_wrapper.proofs.wrapper.constraint_wrapper_cols.Tie as tie
 
-local-row : (c : tie.Start) → Row c.args.lv.now
-local-row c = c.requires.0.local
+local_row : (c : tie.Start) → Row c.args.lv.now
+local_row c = c.requires.0.local
 
 next_row : (c : tie.Start) → Row c.args.nv.now
 next_row c = c.requires.0.next
@@ -30,4 +30,4 @@ unfolding values constraint_wrapper_cols
 returns c = sym (search (exprs, length) depth 100 fits 100000)
 
 pub constraint_wrapper_cols_spec : {M : Type 1} → statement M
-constraint_wrapper_cols_spec = tie.close (search (tie.spec, returns, places, length-below, local-row, next_row))
+constraint_wrapper_cols_spec = tie.close (search (tie.spec, returns, places, length-below, local_row, next_row))
