@@ -19,7 +19,7 @@ pub eval_packed_generic-requires : goal.eval_packed_generic-requires
 eval_packed_generic-requires c = record {
   rows = c.requires.rows;
   factors = c.factors-factors.ensures;
-  room = omega (arith, c.requires.room, c.out-1.given);
+  room = omega (arith, c.requires.room);
 }
 
 pub eval_packed_generic-requires-2 : goal.eval_packed_generic-requires-2
@@ -27,7 +27,7 @@ eval_packed_generic-requires-2 c = record {
   rows = c.requires.rows;
   z = c.requires.z;
   factors = c.factors-factors.ensures;
-  room = omega (arith, c.requires.room, c.out-1.given, c.out-2-1.given);
+  room = omega (arith, c.requires.room);
 }
 
 pub returns : goal.returns

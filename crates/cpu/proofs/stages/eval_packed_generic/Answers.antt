@@ -18,7 +18,7 @@ eval_opcodes-requires c = record {
   rows = c.requires.rows;
   masks = c.requires.masks;
   z = c.requires.z;
-  room = omega (arith, c.requires.room, c.out-1.given, c.out-2-1.given, c.out-3-1.given);
+  room = omega (arith, c.requires.room);
 }
 
 pub returns : goal.returns

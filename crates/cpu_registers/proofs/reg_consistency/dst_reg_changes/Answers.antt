@@ -16,7 +16,6 @@ use Rattle.table.proofs.Rows.{places, part-below}
 use Rattle.parts.specs.Parts.{up_to}
 use Rattle.parts.proofs.Laws.{filled, up_to-none, up_to-step, each-is}
 use Rattle.cpu_registers.proofs.Laws.{kept_of}
-use Rattle.cpu_registers.proofs.Calls.{multi_reg_change-below}
 use Rattle.cpu_registers.proofs.reg_consistency.dst_reg_changes.Goals as goal
 use Rattle.cpu_registers.proofs.reg_consistency.dst_reg_changes.Goals.{Start}
 
@@ -36,7 +35,7 @@ pub multi_reg_change-requires : goal.multi_reg_change-requires
 multi_reg_change-requires c = search local_row
 
 pub sub-requires : goal.sub-requires
-sub-requires c = search (places, multi_reg_change-below)
+sub-requires c = search places
 
 pub loop-i-init : goal.loop-i-init
 loop-i-init c = (omega arith, refl, search up_to-none)

@@ -13,7 +13,6 @@ use Rattle.table.proofs.Rows.{places, part-below}
 use Rattle.parts.specs.Parts.{up_to}
 use Rattle.parts.proofs.Laws.{filled, up_to-none, up_to-step, each-is}
 use Rattle.cpu_registers.proofs.Laws.{kept_of}
-use Rattle.cpu_registers.proofs.Calls.{multi_reg_change_of, multi_reg_change-below}
 use Rattle.cpu_registers.proofs.reg_consistency.dst_reg_changes.Given as goal
 
 abbrev pub invariant-loop-i : goal.invariant-loop-i

@@ -20,7 +20,7 @@ overflow_add-at-3 c = omega (arith, c.requires.room)
 pub put-requires-4 : goal.put-requires-4
 put-requires-4 c =
     let n : c.args.at + 24 + 1 ≤ length c.args.out.now = omega (arith, c.requires.room) in
-    omega (arith, n, c.out-1.given, c.out-2-1.given, c.out-3-1.given)
+    omega (arith, n)
 
 pub returns : goal.returns
 unfolding constraint_ext_lines

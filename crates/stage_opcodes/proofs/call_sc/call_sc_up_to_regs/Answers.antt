@@ -25,7 +25,7 @@ overflow_add-at-3 c = omega (arith, c.requires.room)
 
 pub put-requires-4 : goal.put-requires-4
 put-requires-4 c =
-    omega (arith, c.requires.room, c.out-1.given, c.out-2-1.given, c.out-3-1.given)
+    omega (arith, c.requires.room)
 
 pub returns : goal.returns
 returns c = sym (search (put_next, put_of, groups, after-groups, lengths, room) depth 30 fits 100000)

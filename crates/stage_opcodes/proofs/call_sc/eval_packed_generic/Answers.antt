@@ -29,7 +29,7 @@ overflow_add-at-3 c = omega (arith, c.requires.room)
 pub put-requires-3 : goal.put-requires-3
 put-requires-3 c =
     let n : c.args.at + 34 + 8 ≤ length c.args.out.now = omega (arith, c.requires.room) in
-    omega (arith, n, c.out-1.given, c.out-2-1.given, c.out-3-1.given)
+    omega (arith, n)
 
 pub returns : goal.returns
 unfolding call_sc
