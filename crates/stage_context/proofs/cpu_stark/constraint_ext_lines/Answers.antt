@@ -1,9 +1,8 @@
 -- `stage_context::cpu_stark::constraint_ext_lines` meets its contract.
 use mathlib.Core.Path.{sym}
-use Prim.Native.Nat.{◌+◌, ◌^◌, ◌<◌, ◌≤◌}
+use Prim.Native.Nat.{◌+◌, ◌≤◌}
 use native.Mathlib.Omega.{arith}
 use lib.ListN.{length}
-use borrow.Author.Rules.{rules}
 use Rattle.table.specs.CpuStark.{constraint_ext_lines}
 use Rattle.parts.proofs.Written.{put_of, put_next}
 use Rattle.cpu_ext_lines.proofs.Groups.{groups}

@@ -1,9 +1,8 @@
 -- `stage_context::cpu_stark::constraint_tx_init` meets its contract.
 use mathlib.Core.Path.{sym}
-use Prim.Native.Nat.{◌+◌, ◌^◌, ◌<◌, ◌≤◌}
+use Prim.Native.Nat.{◌≤◌}
 use native.Mathlib.Omega.{arith}
 use lib.ListN.{length}
-use borrow.Author.Rules.{rules}
 use Rattle.table.specs.CpuStark.{constraint_tx_init}
 use Rattle.parts.proofs.Written.{put_of, put_next}
 use Rattle.cpu_tx_init.proofs.Groups.{groups}

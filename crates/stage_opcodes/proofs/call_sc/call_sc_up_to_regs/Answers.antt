@@ -1,9 +1,8 @@
 -- `stage_opcodes::call_sc::call_sc_up_to_regs` meets its contract.
 use mathlib.Core.Path.{sym}
-use Prim.Native.Nat.{◌+◌, ◌^◌, ◌<◌, ◌≤◌}
+use Prim.Native.Nat.{◌≤◌}
 use native.Mathlib.Omega.{arith}
 use lib.ListN.{length}
-use borrow.Author.Rules.{rules}
 use Rattle.parts.proofs.Written.{put_of, put_next}
 use Rattle.cpu_call_sc.proofs.Groups.{groups}
 use Rattle.cpu_after_call_sc.proofs.Groups.{groups as after-groups}

@@ -1,9 +1,8 @@
 -- `stage_opcodes::tape::eval_packed_generic` meets its contract.
 use mathlib.Core.Path.{sym}
-use Prim.Native.Nat.{◌+◌, ◌^◌, ◌<◌, ◌≤◌}
+use Prim.Native.Nat.{◌+◌, ◌≤◌}
 use native.Mathlib.Omega.{arith}
 use lib.ListN.{length}
-use borrow.Author.Rules.{rules}
 use Rattle.table.specs.Tape.{tape}
 use Rattle.parts.proofs.Written.{put_of, put_next}
 use Rattle.cpu_tape.proofs.Groups.{groups}
