@@ -1,5 +1,6 @@
 // The judge: whether a pair of rows keeps every rule of the rulebook.
 #![tactic(auto)]
+
 ghost use Rattle.std.specs.Prelude.{◌≡◌};
 ghost use Rattle.judge.specs.Verdict.{judge_refusal, verdict_of};
 

@@ -32,7 +32,7 @@ pub fn keeps_arithmetic(masks: &[u64], lv: &[u64], k: u64) -> bool
             & ((opcode != masks[mask::MUL]) | (dst == mul(op0, op1)))
             // ASSERT OP1 = 1;
             & ((opcode != masks[mask::ASSERT]) | (op1 == 1))
-            // with d = OP0 - OP1, EQ DST·d + (1 - DST)(1 - typeof.d.AUX0) = 0,
+            // with d = OP0 - OP1, EQ DST·d + (1 - DST)(1 - d·AUX0) = 0,
             & ((opcode != masks[mask::EQ]) | (add(mul(dst, d), mul(not_dst, not_inverse)) == 0))
             // NEQ the same with DST and 1 - DST exchanged.
             & ((opcode != masks[mask::NEQ]) | (add(mul(not_dst, d), mul(dst, not_inverse)) == 0))

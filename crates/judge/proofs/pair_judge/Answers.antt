@@ -1,6 +1,5 @@
 -- `judge::pair_judge` meets its contract.
 use mathlib.Core.Path.{sym, ◌∙◌}
-use borrow.Author.Rules.{rules}
 use Rattle.judge.proofs.Refused.{pair_is, refused, keeps_said, breaks_said}
 use Rattle.judge.proofs.pair_judge.Goals as goal
 

@@ -1,6 +1,5 @@
 -- `judge::refusal` meets its contract.
 use mathlib.Core.Path.{sym, ◌∙◌}
-use borrow.Author.Rules.{rules}
 use Rattle.checks.proofs.Laws.{masks-length, rows_are, denied, kept}
 use Rattle.judge.proofs.Refused.{sizes_refused, contents_refused, flags_refused, accepted}
 use Rattle.judge.proofs.refusal.Goals as goal

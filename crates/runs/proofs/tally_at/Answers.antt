@@ -8,7 +8,12 @@ use Rattle.runs.proofs.tally_at.Goals as goal
 pub pair_tally-requires : goal.pair_tally-requires
 pair_tally-requires c =
     let asked = last_asks _ _ c.requires.accepted _ _ _ c.requires.rows c.requires.pair c.first_weight-f.ensures in
-    (record { local = search; next = search }, (search, (search, search)))
+    record {
+      rows = record { local = search rules; next = search rules };
+      masks = search rules;
+      z = search rules;
+      f = search rules;
+    }
 
 pub returns-then-i-n : goal.returns-then-i-n
 returns-then-i-n c =
@@ -16,7 +21,8 @@ returns-then-i-n c =
 
 pub pair_tally-requires-2 : goal.pair_tally-requires-2
 pair_tally-requires-2 c =
-    next_asks _ _ c.requires.accepted _ _ _ c.requires.rows c.requires.pair c.first_weight-f.ensures c.if-i-n.false
+    let asked = next_asks _ _ c.requires.accepted _ _ _ c.requires.rows c.requires.pair c.first_weight-f.ensures c.if-i-n.false in
+    record { rows = asked.0; masks = asked.1.0; z = asked.1.1.0; f = asked.1.1.1 }
 
 pub returns : goal.returns
 returns c =

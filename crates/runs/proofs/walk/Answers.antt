@@ -1,6 +1,5 @@
 -- `runs::walk` meets its contract.
 use mathlib.Core.Path.{refl, sym, ap, ◌∙◌}
-use mathlib.Core.Logic.{⊎_elim}
 use Prim.Native.Nat.{◌-◌, ◌<◌}
 use native.Mathlib.Omega.{arith}
 use borrow.Author.Rules.{rules}
@@ -10,6 +9,7 @@ use Rattle.run_pairs.proofs.Parts.{some-row}
 use Rattle.answers.specs.declared.Spot.TheVariants.{At}
 use Rattle.runs.proofs.Found.{Found, found_none, passed, failed_first, failed_more, found-report}
 use Rattle.runs.proofs.walk.Goals as goal
+use Rattle.runs.proofs.walk.Goals.{then-t-ne0, then-failing-eq0, else-failing-eq0, else-t-ne0}
 
 pub loop-i-init : goal.loop-i-init
 loop-i-init c = found_none _ _
@@ -17,7 +17,7 @@ loop-i-init c = found_none _ _
 -- the loop's places are told that the run has a row, so that a walk which stops early is refused for its report alone
 pub tally_at-t-requires : goal.tally_at-t-requires
 tally_at-t-requires c =
-    (c.requires, (refl, omega (arith, some-row _ _ c.requires)))
+    record { accepted = c.requires; rows = refl; pair = omega (arith, some-row _ _ c.requires) }
 
 pub loop-i-smaller : goal.loop-i-smaller
 loop-i-smaller c =
@@ -29,13 +29,11 @@ loop-i-preserved c =
     let e = c.tally_at-t.ensures in
     let z = ap (λ (t : Tally). t.count) e in
     let y = ap (λ (t : Tally). At c.loop-i.i t.lowest) e in
-    ⊎_elim
-    (λ w. ⊎_elim
-    (λ v. rw (w.2, w.3, v.1 ∙ y) (failed_first _ _ _ h _ _ c.loop-i.invariant (λ q. w.0.taken (z ∙ q)) v.0.taken))
-    (λ v. rw (w.2, w.3, v.1) (failed_more _ _ _ h _ _ c.loop-i.invariant (λ q. w.0.taken (z ∙ q)) v.0.left))
-    w.1.came)
-    (λ w. rw (w.1, w.2) (passed _ _ _ h _ _ c.loop-i.invariant (sym z ∙ w.0.left)))
-    c.if-t-ne0.branch
+    elim c.if-t-ne0.branch [
+      then-t-ne0 w ↦ elim w.if-failing-eq0.branch [
+        then-failing-eq0 v ↦ rw (w.failing-is, w.spot-is, v.spot-is ∙ y) (failed_first _ _ _ h _ _ c.loop-i.invariant (λ q. w.if-t-ne0.true (z ∙ q)) v.if-failing-eq0.true)
+      | else-failing-eq0 v ↦ rw (w.failing-is, w.spot-is, v.spot-is) (failed_more _ _ _ h _ _ c.loop-i.invariant (λ q. w.if-t-ne0.true (z ∙ q)) v.if-failing-eq0.false) ]
+    | else-t-ne0 w ↦ rw (w.failing-is, w.spot-is) (passed _ _ _ h _ _ c.loop-i.invariant (sym z ∙ w.if-t-ne0.false)) ]
 
 pub returns : goal.returns
 returns c = found-report _ _ _ _ _ c.loop-i.invariant (omega arith)
