@@ -19,15 +19,14 @@ pub feed-step-requires : goal.feed-step-requires
 feed-step-requires c = record { room = search rules; sound = c.loop-i.invariant.3 }
 
 pub loop-i-preserved : goal.loop-i-preserved
-loop-i-preserved c =
-    (
-      omega arith,
-      search rules,
-      c.feed-step.ensures.gives.state_is
-          ∙ ap (λ (s : State). (feed_of line_of_pair s (replicate row_bytes 0)).state) c.loop-i.invariant.2
-          ∙ row-taken line_of_pair c.loop-i.i (omega arith),
-      c.feed-step.ensures.onward.sound,
-    )
+loop-i-preserved c = (
+  omega arith,
+  search rules,
+  c.feed-step.ensures.gives.state_is
+      ∙ ap (λ (s : State). (feed_of line_of_pair s (replicate row_bytes 0)).state) c.loop-i.invariant.2
+      ∙ row-taken line_of_pair c.loop-i.i (omega arith),
+  c.feed-step.ensures.onward.sound,
+)
 
 pub returns : goal.returns
 returns c =

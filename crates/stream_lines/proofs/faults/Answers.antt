@@ -35,9 +35,9 @@ loop-i-preserved c =
     let line = more c.args.pair c.args.values.now c.loop-i.i (omega arith) in
     let none = skipped c.args.pair c.args.values.now c.loop-i.i (omega arith) in
     elim c.if-listed.branch [
-      then-listed w ↦
-        (let n : v ≢ 0 = w.if-listed.true in
-        rw (w.out-is, w.next-is, line n) (search rules, then h c.loop-i.invariant.1 w.fault-next.ensures))
+      | then-listed w ↦
+          (let n : v ≢ 0 = w.if-listed.true in
+          rw (w.out-is, w.next-is, line n) (search rules, then h c.loop-i.invariant.1 w.fault-next.ensures))
       | else-listed w ↦ (let z : v ≡ 0 = w.if-listed.false in rw (w.out-is, w.next-is, none z) c.loop-i.invariant)
     ]
 
