@@ -1,6 +1,6 @@
 -- The parts of a lent run that are handed on are its rows, and as the core asks.
-use mathlib.Core.Path.{◌≡◌, sym, ap, ◌∙◌}
-use mathlib.Core.Bool.{true, false, not}
+use mathlib.Core.Path.{◌≡◌, ◌∙◌}
+use mathlib.Core.Bool.{false, not}
 use mathlib.Core.List.{List, [], ◌∷◌}
 use Prim.Native.Nat.{ℕ, ◌+◌, ◌-◌, ◌*◌, ◌%◌, ◌≤◌, ◌<◌}
 use native.Mathlib.Omega.{arith}
@@ -8,7 +8,7 @@ use lib.ListN.{length, take, drop, length-take, length-drop}
 use lib.Dec.{eqb, ltb, lit<}
 use borrow.Author.Tests.{eq-eqb, ne_eqb, eqb-false, not-false}
 use Rattle.algebra.specs.Prime.{p}
-use Rattle.refusals.specs.Refusal.{canonical, run_length, mask_count, mask_contents, row_contents}
+use Rattle.refusals.specs.Refusal.{run_length, mask_count, mask_contents, row_contents}
 use Rattle.refusals.proofs.Laws.{Clear, clear, length-is, none_true, canonical-part, canonical-below}
 use Rattle.table.specs.Rows.{Row, Rows, Masks}
 use Rattle.table.specs.Table.{pair_values}

@@ -1,6 +1,5 @@
 -- `checked_residue::add` meets its contract.
 use mathlib.Core.Path.{sym, ◌∙◌}
-use borrow.Author.Rules.{rules}
 use Rattle.checked_residue.proofs.Operands.{below, refused, given}
 use Rattle.checked_residue.proofs.add.Goals as goal
 

@@ -1,6 +1,5 @@
 -- `checked_residue::mul` meets its contract.
 use mathlib.Core.Path.{sym, ◌∙◌}
-use borrow.Author.Rules.{rules}
 use Rattle.checked_residue.proofs.Operands.{refused, given}
 use Rattle.checked_residue.proofs.mul.Goals as goal
 

@@ -1,5 +1,4 @@
 -- `field_signed_maps::difference` meets its contract.
-use borrow.Author.Rules.{rules}
 use Rattle.field_signed_maps.proofs.Signs.{difference_fits, difference_is}
 use Rattle.field_signed_maps.proofs.difference.Goals as goal
 

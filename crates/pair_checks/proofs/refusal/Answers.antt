@@ -1,7 +1,6 @@
 -- `pair_checks::refusal` meets its contract.
 use mathlib.Core.Path.{sym, ◌∙◌}
 use native.Mathlib.Omega.{arith}
-use borrow.Author.Rules.{rules}
 use Rattle.checks.proofs.Laws.{masks-length}
 use Rattle.pair_checks.proofs.Laws.{sizes_refused, buffer_refused, contents_refused, first_refused, second_refused, accepted}
 use Rattle.pair_checks.proofs.refusal.Goals as goal

@@ -1,5 +1,4 @@
 -- `pair_fold_checks::number_refusal` meets its contract.
-use borrow.Author.Rules.{rules}
 use borrow.Author.Tests.{not-true, not-false}
 use Rattle.checks.proofs.Laws.{denied, kept}
 use Rattle.pair_fold_checks.proofs.Laws.{first_refused, second_refused, alphas_refused, accumulators_refused, numbers-accepted}

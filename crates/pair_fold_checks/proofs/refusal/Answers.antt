@@ -1,6 +1,5 @@
 -- `pair_fold_checks::refusal` meets its contract.
 use mathlib.Core.Path.{sym, ◌∙◌}
-use borrow.Author.Rules.{rules}
 use Rattle.checks.proofs.Laws.{masks-length}
 use Rattle.pair_fold_checks.proofs.Laws.{sizes_refused, counts_refused, contents_refused, numbers_decide}
 use Rattle.pair_fold_checks.proofs.refusal.Goals as goal

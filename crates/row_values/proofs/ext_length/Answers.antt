@@ -1,5 +1,4 @@
 -- `row_values::ext_length` meets its contract.
-use borrow.Author.Rules.{rules}
 use Rattle.table.specs.CpuStark.{lv_ext_length}
 use Rattle.row_values.proofs.Laws.{row_is, row_refused, row-value}
 use Rattle.row_values.proofs.ext_length.Goals as goal

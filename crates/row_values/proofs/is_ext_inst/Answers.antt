@@ -1,5 +1,4 @@
 -- `row_values::is_ext_inst` meets its contract.
-use borrow.Author.Rules.{rules}
 use Rattle.table.specs.CpuStark.{lv_is_ext_inst}
 use Rattle.row_values.proofs.Laws.{row_is, row_refused, row-value}
 use Rattle.row_values.proofs.is_ext_inst.Goals as goal

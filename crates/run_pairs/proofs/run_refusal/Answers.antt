@@ -1,6 +1,5 @@
 -- `run_pairs::run_refusal` meets its contract.
 use mathlib.Core.Path.{sym, ◌∙◌}
-use borrow.Author.Rules.{rules}
 use borrow.Author.Tests.{eq-eqb, ne_eqb}
 use Rattle.checks.proofs.Laws.{denied, kept}
 use Rattle.run_pairs.specs.Run.{run_refusal}

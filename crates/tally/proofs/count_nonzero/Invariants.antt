@@ -1,9 +1,6 @@
-use mathlib.Core.Logic.{⊎_elim}
-use Prim.Native.Nat.{◌-◌, ◌<◌}
-use native.Mathlib.Omega.{arith}
+use Prim.Native.Nat.{◌-◌}
 use lib.ListN.{length}
-use borrow.Author.Rules.{rules}
-use Rattle.tally.proofs.Laws.{Counted, counted_none, counted_all, skipped, found, more}
+use Rattle.tally.proofs.Laws.{Counted}
 use Rattle.tally.proofs.count_nonzero.Given as goal
 
 abbrev pub invariant-loop-i : goal.invariant-loop-i
