@@ -1,5 +1,6 @@
 // The line that a comparison ends with, and the reading of what is compared.
 #![tactic(auto)]
+
 ghost use Rattle.io.specs.Counts.{IsPrefixLen};
 
 use std::io::{Read, Stdin, Stdout};

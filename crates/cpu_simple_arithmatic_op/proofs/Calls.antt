@@ -1,13 +1,13 @@
 -- What a call of a helper gives, as the value of an expression.
 use Prim.Native.Nat.{ℕ}
-use mathlib.Core.Path.{◌≡◌, sym, ap, ◌∙◌}
+use mathlib.Core.Path.{◌≡◌, sym, ap}
 use mathlib.Core.List.{List}
 use lib.ListN.{get_or}
 use borrow.Fn.Args.{ArgsT, args_v}
 use borrow.Table.Row.{Cx}
 use borrow.Table.Typed.{Mo}
 use borrow.Author.Called.{Called}
-use Rattle.algebra.specs.Expr.{Expr, ◌⊖◌, eval}
+use Rattle.algebra.specs.Expr.{◌⊖◌, eval}
 use Rattle.residue.specs.Residues.{residues}
 use Rattle.table.specs.Columns.{COL-S-SIMPLE-ARITHMATIC-OP, COL-OPCODE}
 use Rattle.table.specs.Masks.{ADD, MUL, EQ, NEQ, ASSERT}

@@ -1,5 +1,7 @@
 // The 226 constraints of a pair of rows, yielded one after the other to a lent consumer, against the fold of
 // that pair. What each makes of an accumulator is printed, and the two are proved equal from the contracts.
+#![tactic(auto)]
+
 ghost use Rattle.std.specs.Prelude.{◌≡◌, length};
 ghost use Rattle.consumer.specs.Consumer.{taken};
 ghost use Rattle.consumer.specs.Yielded.{taken_all};

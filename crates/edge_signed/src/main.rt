@@ -1,5 +1,7 @@
 // The edges of the signed form of a residue, run through the two maps: each answer is printed on a line, and proved
 // from its map's contract to be the one that is expected.
+#![tactic(auto)]
+
 ghost use Rattle.std.specs.Prelude.{◌≡◌, ◌≤◌, ◌<◌, nat_abs};
 ghost use Rattle.algebra.specs.Prime.{p};
 ghost use Rattle.refusals.specs.Refusal.{greatest};

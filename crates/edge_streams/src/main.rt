@@ -1,5 +1,7 @@
 // rowdesk and faults on 0, 1, 65,536 and 65,537 zero rows, step by step. What is printed last is printed on lines, and is proved from
 // the steps' contracts to be the expected text.
+#![tactic(auto)]
+
 ghost use Rattle.std.specs.Prelude.{◌≡◌, [], ◌≤◌};
 ghost use Rattle.stream_text.specs.Text.{text_by};
 ghost use Rattle.stream_model.specs.Model.{feed_of};
@@ -37,7 +39,15 @@ fn after(n: usize) -> State
 }
 
 // What the program of this name prints last, where n zero rows are fed and then `bytes`, printed behind the name and the words.
-fn last_text(rt: HostRuntime, text: Text, name: &[u8], words: &[u8], n: usize, bytes: &[u8], expected: &[u8])
+fn last_text(
+    rt: HostRuntime,
+    text: Text,
+    name: &[u8],
+    words: &[u8],
+    n: usize,
+    bytes: &[u8],
+    expected: &[u8],
+)
     requires rows { n ≤ 65536 }
     requires expected { expected.now ≡ (feed_of (text_by text) (stateAfter n) bytes.now).text }
 {
@@ -59,13 +69,21 @@ fn edges(rt: HostRuntime, text: Text, name: &[u8], one: &[u8], most: &[u8])
     last_text(rt, text, name, b", 0 rows: ", 0, b"", b"refused 1\n");
     last_text(rt, text, name, b", 1 row: ", 1, b"", one);
     last_text(rt, text, name, b", 65536 rows: ", 65536, b"", most);
-    last_text(rt, text, name, b", 65537 rows: ", 65536, &row, b"refused 1\n");
+    last_text(
+        rt,
+        text,
+        name,
+        b", 65537 rows: ",
+        65536,
+        &row,
+        b"refused 1\n",
+    );
 }
 
 fn main(rt: HostRuntime) {
     edges(rt, Text::Counts, b"rowdesk", b"0 2 104\n", b"65535 2 104\n");
     edges(
-            rt,
+        rt,
         Text::Faults,
         b"faults",
         b"0 104 1\n0 148 -1\n",

@@ -15,7 +15,13 @@ use table::columns::{
 use table::masks::SCCALL;
 
 // A value of a pair, by its number, printed behind the words. The weights are those of a run of one row.
-fn value(rt: HostRuntime, words: &[u8], lv: &[u64; NUM_CPU_COLS], nv: &[u64; NUM_CPU_COLS], number: usize) -> u64
+fn value(
+    rt: HostRuntime,
+    words: &[u8],
+    lv: &[u64; NUM_CPU_COLS],
+    nv: &[u64; NUM_CPU_COLS],
+    number: usize,
+) -> u64
     requires { (0 < number) × (number ≤ 226) }
     ensures { result ≡ get_or (pair_values_buffer powers lv.now nv.now 0 1 (replicate 226 0)) (number - 1) 0 }
 {
@@ -92,7 +98,16 @@ pub fn worked(rt: HostRuntime) {
 
 // The number with which a pair is turned back, printed behind the words: zero rows with other last columns, masks with another last
 // one, the weights, and the room of the buffer.
-fn ask(rt: HostRuntime, words: &[u8], mask: u64, local: u64, next: u64, z_last: u64, first: u64, room: usize) -> u64
+fn ask(
+    rt: HostRuntime,
+    words: &[u8],
+    mask: u64,
+    local: u64,
+    next: u64,
+    z_last: u64,
+    first: u64,
+    room: usize,
+) -> u64
     requires { room ≤ 226 }
     ensures { result ≡ pair_values_refusal (last_mask mask) (last_column local) (last_column next) z_last first room }
 {
@@ -120,7 +135,18 @@ fn limits(rt: HostRuntime) {
     check::expect(ask(rt, b"a mask p", P, 0, 0, 0, 1, 226) == 5);
     check::expect(ask(rt, b"a column p - 1", 0, P - 1, 0, 0, 1, 226) == 0);
     check::expect(ask(rt, b"a column p", 0, P, 0, 0, 1, 226) == 6);
-    check::expect(ask(rt, b"a column p - 1 of the next row", 0, 0, P - 1, 0, 1, 226) == 0);
+    check::expect(
+        ask(
+            rt,
+            b"a column p - 1 of the next row",
+            0,
+            0,
+            P - 1,
+            0,
+            1,
+            226,
+        ) == 0,
+    );
     check::expect(ask(rt, b"a column p of the next row", 0, 0, P, 0, 1, 226) == 6);
     check::expect(ask(rt, b"z_last p - 1", 0, 0, 0, P - 1, 1, 226) == 0);
     check::expect(ask(rt, b"z_last p", 0, 0, 0, P, 1, 226) == 7);

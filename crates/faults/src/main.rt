@@ -1,4 +1,6 @@
 // Reads 25 masks, then rows, from standard input, and prints a line for each value of a pair of rows that is not 0, as a signed number.
+#![tactic(auto)]
+
 use stream_text::Text;
 
 fn main(rt: HostRuntime) {

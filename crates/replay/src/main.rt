@@ -1,6 +1,8 @@
 // Replays the stored sample of the Rust's answers. A record is 441 values: 25 masks, the current row, the next
 // row, z_last, lagrange_basis_first, and the 226 values that the Rust gave. The sample is the file stdin, made by
 // `harness/run sample > crates/replay/stdin`.
+#![tactic(auto)]
+
 ghost use Rattle.std.specs.Prelude.{◌≡◌, true, length};
 ghost use Rattle.replay.specs.Record.{Agrees};
 

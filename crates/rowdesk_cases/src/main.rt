@@ -1,4 +1,6 @@
 // Replays the stored cases of rowdesk: the file stdin, made by `harness/run cases rowdesk`.
+#![tactic(auto)]
+
 use stream_text::Text;
 
 fn main(rt: HostRuntime) {

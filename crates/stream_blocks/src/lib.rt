@@ -1,4 +1,6 @@
 // A program over masks and rows on a block of bytes: what one read gave, with the part of a row that was left over in front.
+#![tactic(auto)]
+
 ghost use Rattle.std.specs.Prelude.{◌≡◌, true, ◌≤◌, ◌<◌, length};
 ghost use Rattle.stream_text.specs.Text.{text_by, pair_bytes};
 ghost use Rattle.stream_model.specs.Model.{Gives};

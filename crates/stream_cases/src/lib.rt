@@ -1,5 +1,7 @@
 // Replays stored cases of a program over masks and rows from standard input. A case is an input and what the plain Rust says must be
 // printed, each with its length in front, eight bytes, low byte first. `harness/run cases` makes them.
+#![tactic(auto)]
+
 ghost use Rattle.std.specs.Prelude.{◌≡◌, true, ◌≤◌, length};
 ghost use Rattle.stream_text.specs.Text.{text_by};
 ghost use Rattle.stream_model.specs.Model.{output_of};

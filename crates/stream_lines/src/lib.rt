@@ -1,5 +1,7 @@
 // The text that the programs print of a pair, and their line of a refusal. Each is put behind the first `at` bytes of a
 // buffer, and the answer is the next place.
+#![tactic(auto)]
+
 ghost use Rattle.std.specs.Prelude.{◌≡◌, ◌++◌, ◌+◌, ◌*◌, ◌≤◌, ◌<◌, length};
 ghost use Rattle.algebra.specs.Prime.{p};
 ghost use Rattle.algebra.specs.Lists.{All};

@@ -1,4 +1,6 @@
 // The state of a program that reads masks and rows and prints a text of each pair. There is no code.
+#![tactic(auto)]
+
 use table::columns::NUM_CPU_COLS;
 use table::masks::NUM_MASKS;
 

@@ -1,5 +1,7 @@
 // The reading of a program over masks and rows: from standard input, with the texts of pairs to standard output. A program is a main that
 // names its text, and itself for what it says on standard error.
+#![tactic(auto)]
+
 ghost use Rattle.std.specs.Prelude.{◌≡◌, false, ◌<◌, length};
 ghost use Rattle.stream_model.specs.Model.{row_bytes};
 ghost use Rattle.stream_model.specs.Rows.{rows_in};
@@ -129,7 +131,14 @@ fn end(rt: HostRuntime, text: Text, name: &[u8], s: State, bytes: &[u8], out: &m
 }
 
 // Reads once behind what is read, and feeds what that makes whole. A full buffer, whose rows are all fed, is read from its start.
-fn turn(rt: HostRuntime, text: Text, name: &[u8], r: Reading, bytes: &mut [u8], out: &mut [u8]) -> Reading
+fn turn(
+    rt: HostRuntime,
+    text: Text,
+    name: &[u8],
+    r: Reading,
+    bytes: &mut [u8],
+    out: &mut [u8],
+) -> Reading
     requires buffer { length bytes.old ≡ block_bytes }
     requires room { length out.old ≡ text_bytes }
     requires ready { Ready r }

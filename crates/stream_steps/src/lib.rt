@@ -1,5 +1,7 @@
 // A program over masks and rows, step by step: each step takes the state and what was read, and gives the state and what to print, which it
 // puts behind the first `at` bytes of a buffer.
+#![tactic(auto)]
+
 ghost use Rattle.std.specs.Prelude.{◌≡◌, ◌+◌, ◌≤◌, ◌<◌, length};
 ghost use Rattle.algebra.specs.Prime.{p};
 ghost use Rattle.table.specs.Rows.{Row};

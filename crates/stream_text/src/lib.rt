@@ -1,4 +1,5 @@
 // What the programs rowdesk and faults print of a pair, and their line of a refusal. There is no code.
+#![tactic(auto)]
 
 // Which text of a pair a program prints: a line with its count, or a line for each of its values that is not 0.
 #[derive(Clone, Copy)]

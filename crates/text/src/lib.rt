@@ -1,4 +1,6 @@
 // Text and decimal numbers, put into a buffer piece by piece.
+#![tactic(auto)]
+
 ghost use Rattle.std.specs.Prelude.{◌∷◌, [], ◌+◌, ◌≤◌, ◌<◌, length};
 ghost use Rattle.text.specs.Decimal.{decimal_of};
 ghost use Rattle.text.specs.Put.{Put};

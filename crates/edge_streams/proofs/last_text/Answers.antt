@@ -26,7 +26,3 @@ slice_bounds-out-end-2 c = (put_counts (omega arith) c.feed-step.ensures.gives.p
 
 pub slice_bounds-write_all-end : goal.slice_bounds-write_all-end
 slice_bounds-write_all-end c = (put_counts (omega arith) c.feed-step.ensures.gives.put).1
-
-pub write_all-requires-3 : goal.write_all-requires-3
-write_all-requires-3 c = search
-    rules

@@ -27,14 +27,14 @@ constraint_tx_init-requires c = record {
   rows = c.requires.rows;
   z = c.requires.z;
   f = c.requires.f;
-  room = omega (arith, c.requires.room, c.out-1.given);
+  room = omega (arith, c.requires.room);
 }
 
 pub constraint_ext_lines-requires : goal.constraint_ext_lines-requires
 constraint_ext_lines-requires c = record {
   rows = c.requires.rows;
   length = one_shared c.lv_ext_length-ext_length.ensures.value;
-  room = omega (arith, c.requires.room, c.out-1.given, c.out-2-1.given, c.out-3-1.given);
+  room = omega (arith, c.requires.room);
 }
 
 pub constraint_env_idx-env_idx-requires : goal.constraint_env_idx-env_idx-requires
@@ -45,7 +45,7 @@ constraint_env_idx-env_idx-requires c = record {
 
 pub put-requires-2 : goal.put-requires-2
 put-requires-2 c =
-    omega (arith, c.requires.room, c.out-1.given, c.out-2-1.given, c.out-3-1.given, c.out-4-1.given)
+    omega (arith, c.requires.room)
 
 pub returns : goal.returns
 unfolding context

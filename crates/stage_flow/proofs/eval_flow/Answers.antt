@@ -4,7 +4,6 @@ use mathlib.Core.List.{List}
 use Prim.Native.Nat.{ℕ, ◌≤◌}
 use native.Mathlib.Omega.{arith}
 use lib.ListN.{length, get_or}
-use borrow.Author.Rules.{rules}
 use Rattle.stage_flow.specs.Stage.{flow}
 use Rattle.table.specs.Entry.{values}
 use Rattle.table.specs.CpuStark.{constraint_env_unchanged_clk}

@@ -3,7 +3,6 @@ use mathlib.Core.Path.{sym}
 use Prim.Native.Nat.{◌≤◌}
 use native.Mathlib.Omega.{arith}
 use lib.ListN.{length}
-use borrow.Author.Rules.{rules}
 use Rattle.stage_instruction.specs.Stage.{instruction}
 use Rattle.parts.proofs.Written.{put_of, put_next}
 use Rattle.cpu_instruction.proofs.Groups.{constraint_instruction_encode_of}

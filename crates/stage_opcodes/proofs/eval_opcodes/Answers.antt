@@ -3,7 +3,6 @@ use mathlib.Core.Path.{sym}
 use Prim.Native.Nat.{◌≤◌}
 use native.Mathlib.Omega.{arith}
 use lib.ListN.{length}
-use borrow.Author.Rules.{rules}
 use Rattle.stage_opcodes.specs.Stage.{opcodes}
 use Rattle.parts.proofs.Written.{put_of, put_next}
 use Rattle.cpu_simple_arithmatic_op.proofs.Groups.{arith_of}
@@ -19,7 +18,7 @@ pub eval_packed_generic-requires : goal.eval_packed_generic-requires
 eval_packed_generic-requires c = record {
   rows = c.requires.rows;
   factors = c.factors-factors.ensures;
-  room = omega (arith, c.requires.room, c.out-1.given);
+  room = omega (arith, c.requires.room);
 }
 
 pub eval_packed_generic-requires-2 : goal.eval_packed_generic-requires-2
@@ -27,7 +26,7 @@ eval_packed_generic-requires-2 c = record {
   rows = c.requires.rows;
   z = c.requires.z;
   factors = c.factors-factors.ensures;
-  room = omega (arith, c.requires.room, c.out-1.given, c.out-2-1.given);
+  room = omega (arith, c.requires.room);
 }
 
 pub returns : goal.returns

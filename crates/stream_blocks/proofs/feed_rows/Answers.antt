@@ -23,9 +23,9 @@ returns-then-not-state c =
       within = omega arith;
       some =
           λ run some room.
-              let n : c.loop-i.i ≡ 0 → ⊥ =
-              λ e. false≢true (sym (not-true _ c.if-not-state.true) ∙ ap (λ (t : State). t.running) (fed_still _ _ _ _ c.loop-i.invariant.2 e).0 ∙ run)
-              in omega arith;
+          let n : c.loop-i.i ≡ 0 → ⊥ =
+          λ e. false≢true (sym (not-true _ c.if-not-state.true) ∙ ap (λ (t : State). t.running) (fed_still _ _ _ _ c.loop-i.invariant.2 e).0 ∙ run)
+          in omega arith;
     }
 
 pub overflow_sub-out : goal.overflow_sub-out

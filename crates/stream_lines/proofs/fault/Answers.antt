@@ -2,7 +2,6 @@
 use Prim.Native.Nat.{ℕ, ◌≤◌, ◌<◌}
 use native.Mathlib.Omega.{arith}
 use lib.ListN.{length}
-use borrow.Author.Rules.{rules}
 use Rattle.text.specs.Decimal.{decimal_of}
 use Rattle.text.proofs.Digits.{decimal_below}
 use Rattle.text.proofs.Puts.{then}

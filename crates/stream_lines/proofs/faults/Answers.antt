@@ -1,18 +1,14 @@
 -- `stream_lines::faults` meets its contract: after i values the lines of the first i are put.
 use mathlib.Core.Path.{◌≡◌, refl}
-use mathlib.Core.Logic.{⊎_elim, ◌≢◌}
-use mathlib.Core.Bool.{false≢true}
-use Prim.Native.Nat.{◌-◌, ◌≤◌, ◌<◌}
+use mathlib.Core.Logic.{◌≢◌}
+use Prim.Native.Nat.{◌≤◌, ◌<◌}
 use native.Mathlib.Omega.{arith}
-use lib.ListN.{length, take, get_or}
+use lib.ListN.{length, get_or}
 use lib.Dec.{lit<}
 use lib.Seq.{take_all}
 use borrow.Author.Rules.{rules}
-use borrow.Author.Tests.{eqb-true, not-false}
 use Rattle.algebra.specs.Prime.{p}
-use Rattle.text.specs.Put.{Put}
 use Rattle.text.proofs.Puts.{put-none, then}
-use Rattle.stream_text.specs.Faults.{faults_of_pair}
 use Rattle.algebra.proofs.Lists.{all_at}
 use Rattle.stream_lines.proofs.Laws.{none_yet, skipped, more, room-left}
 use Rattle.stream_lines.proofs.faults.Goals as goal
@@ -35,9 +31,9 @@ loop-i-preserved c =
     let line = more c.args.pair c.args.values.now c.loop-i.i (omega arith) in
     let none = skipped c.args.pair c.args.values.now c.loop-i.i (omega arith) in
     elim c.if-listed.branch [
-      then-listed w ↦
-        (let n : v ≢ 0 = w.if-listed.true in
-        rw (w.out-is, w.next-is, line n) (search rules, then h c.loop-i.invariant.1 w.fault-next.ensures))
+      | then-listed w ↦
+          (let n : v ≢ 0 = w.if-listed.true in
+          rw (w.out-is, w.next-is, line n) (search rules, then h c.loop-i.invariant.1 w.fault-next.ensures))
       | else-listed w ↦ (let z : v ≡ 0 = w.if-listed.false in rw (w.out-is, w.next-is, none z) c.loop-i.invariant)
     ]
 

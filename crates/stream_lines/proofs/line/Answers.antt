@@ -2,7 +2,6 @@
 use Prim.Native.Nat.{◌≤◌}
 use lib.ListN.{length}
 use native.Mathlib.Omega.{arith}
-use borrow.Author.Rules.{rules}
 use Rattle.text.proofs.Digits.{decimal_short}
 use Rattle.text.proofs.Puts.{then}
 use Rattle.stream_text.specs.Lines.{line_of}

@@ -1,6 +1,5 @@
 -- `stream_lines::pair` meets its contract.
 use native.Mathlib.Omega.{arith}
-use borrow.Author.Rules.{rules}
 use Rattle.stream_lines.proofs.Laws.{counted}
 use Rattle.stream_lines.proofs.pair.Goals as goal
 

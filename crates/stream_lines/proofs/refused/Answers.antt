@@ -2,7 +2,6 @@
 use Prim.Native.Nat.{◌≤◌}
 use lib.ListN.{length}
 use native.Mathlib.Omega.{arith}
-use borrow.Author.Rules.{rules}
 use Rattle.text.proofs.Puts.{then}
 use Rattle.stream_text.specs.Lines.{refused_of}
 use Rattle.stream_lines.proofs.refused.Goals as goal

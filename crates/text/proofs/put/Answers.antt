@@ -1,11 +1,10 @@
 -- `text::put` meets its contract.
 use mathlib.Core.Path.{◌≡◌, refl}
-use Prim.Native.Nat.{◌+◌, ◌-◌, ◌≤◌, ◌<◌}
+use Prim.Native.Nat.{◌+◌, ◌<◌}
 use native.Mathlib.Omega.{arith}
 use native.Mathlib.Numerals.{add-one}
 use lib.ListN.{length, length-set}
-use lib.Seq.{paste, paste-zero, paste-suc}
-use borrow.Author.Rules.{rules}
+use lib.Seq.{paste-zero, paste-suc}
 use Rattle.text.proofs.Puts.{put_all}
 use Rattle.text.proofs.put.Goals as goal
 

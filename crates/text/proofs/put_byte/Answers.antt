@@ -1,5 +1,4 @@
 -- `text::put_byte` meets its contract.
-use borrow.Author.Rules.{rules}
 use Rattle.text.proofs.Puts.{put_one}
 use Rattle.text.proofs.put_byte.Goals as goal
 

@@ -1,9 +1,8 @@
 -- `words::decode` meets its contract.
 use mathlib.Core.Path.{◌≡◌, refl, ap, ◌∙◌}
-use Prim.Native.Nat.{ℕ, ◌-◌, ◌≤◌, ◌<◌}
+use Prim.Native.Nat.{ℕ, ◌<◌}
 use native.Mathlib.Omega.{arith}
-use lib.ListN.{length, take, length-set}
-use borrow.Author.Rules.{rules}
+use lib.ListN.{length, length-set}
 use Rattle.words.specs.Words.{words}
 use Rattle.words.proofs.Laws.{words-none, words_more, words_all}
 use Rattle.words.proofs.decode.Goals as goal

@@ -4,7 +4,6 @@ use Prim.Native.Nat.{◌+◌}
 use native.Mathlib.Omega.{arith}
 use native.Mathlib.Nat.{add-zero}
 use lib.ListN.{get_or}
-use borrow.Author.Rules.{rules}
 use Rattle.words.proofs.Laws.{word_is}
 use Rattle.words.proofs.word.Goals as goal
 

@@ -3,7 +3,6 @@ use mathlib.Core.Path.{sym}
 use Prim.Native.Nat.{◌≤◌}
 use native.Mathlib.Omega.{arith}
 use lib.ListN.{length}
-use borrow.Author.Rules.{rules}
 use Rattle.table.specs.Table.{pair_values}
 use Rattle.parts.proofs.Written.{put_of, put_next}
 use Rattle.cpu.proofs.Whole.{table_is, stages}
@@ -18,7 +17,7 @@ eval_opcodes-requires c = record {
   rows = c.requires.rows;
   masks = c.requires.masks;
   z = c.requires.z;
-  room = omega (arith, c.requires.room, c.out-1.given, c.out-2-1.given, c.out-3-1.given);
+  room = omega (arith, c.requires.room);
 }
 
 pub returns : goal.returns

@@ -1,18 +1,16 @@
 -- `cpu_ext_lines::ext_lines::ext_lines_selectors` meets its contract.
-use Prim.Native.Nat.{◌≤◌, ◌<◌, ◌-◌}
+use Prim.Native.Nat.{◌<◌}
 use mathlib.Core.Path.{◌≡◌, refl, sym, ap₂, ◌∙◌}
 use mathlib.Core.List.{[]}
 use native.Mathlib.Omega.{arith}
-use lib.ListN.{length, take, get_or, length-set}
-use Rattle.residue.specs.Residues.{sub_p, mul_p}
-use Rattle.residue.proofs.Called.{sub_of, mul_of}
+use lib.ListN.{length, get_or, length-set}
+use Rattle.residue.specs.Residues.{mul_p}
 use Rattle.table.specs.Columns.{NUM-OP-SELECTOR, COL-S-SIMPLE-ARITHMATIC-OP, COL-IS-EXT-LINE}
 use Rattle.table.specs.Rows.{Row}
 use Rattle.table.specs.Cells.{nv}
 use Rattle.table.specs.CpuStark.{ext_lines_selectors}
 use Rattle.table.proofs.Called.{exprs}
 use Rattle.table.proofs.Rows.{both, part-below}
-use Rattle.parts.specs.Parts.{up_to}
 use Rattle.parts.proofs.Laws.{filled, up_to-none, up_to-step, each-is}
 use Rattle.cpu_ext_lines.proofs.Laws.{kept_of}
 use Rattle.cpu_ext_lines.proofs.ext_lines.ext_lines_selectors.Goals as goal

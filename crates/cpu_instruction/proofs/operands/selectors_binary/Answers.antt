@@ -1,16 +1,14 @@
 -- `cpu_instruction::operands::selectors_binary` meets its contract.
-use Prim.Native.Nat.{◌+◌, ◌≤◌, ◌<◌, ◌-◌}
+use Prim.Native.Nat.{◌+◌, ◌<◌, ◌-◌}
 use mathlib.Core.Path.{◌≡◌, refl, sym, ◌∙◌}
 use native.Mathlib.Omega.{arith}
-use borrow.Author.Rules.{rules}
-use lib.ListN.{length, take, get_or, length-set, length-take, length-drop}
+use lib.ListN.{length, length-set, length-take, length-drop}
 use Rattle.algebra.specs.Expr.{eval}
-use Rattle.residue.specs.Residues.{sub_p, mul_p}
+use Rattle.residue.specs.Residues.{sub_p}
 use Rattle.residue.proofs.Laws.{mul_p_word}
-use Rattle.table.specs.Columns.{REGISTER-NUM, COL-IS-EXT-LINE}
+use Rattle.table.specs.Columns.{REGISTER-NUM}
 use Rattle.table.specs.CpuStark.{selectors_binary}
 use Rattle.table.proofs.Rows.{places}
-use Rattle.parts.specs.Parts.{up_to}
 use Rattle.parts.proofs.Laws.{filled, up_to-none, up_to-step, part_at, each-is}
 use Rattle.row_sums.proofs.Laws.{part-canonical}
 use Rattle.cpu_instruction.proofs.operands.selectors_binary.Goals as goal

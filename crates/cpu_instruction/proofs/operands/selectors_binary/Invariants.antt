@@ -1,17 +1,9 @@
-use Prim.Native.Nat.{◌+◌, ◌≤◌, ◌<◌, ◌-◌}
-use mathlib.Core.Path.{◌≡◌, refl, sym, ◌∙◌}
-use native.Mathlib.Omega.{arith}
-use borrow.Author.Rules.{rules}
-use lib.ListN.{length, take, get_or, length-set, length-take, length-drop}
-use Rattle.algebra.specs.Expr.{eval}
+use Prim.Native.Nat.{◌+◌, ◌≤◌, ◌-◌}
+use mathlib.Core.Path.{◌≡◌}
+use lib.ListN.{length, take, get_or}
 use Rattle.residue.specs.Residues.{sub_p, mul_p}
-use Rattle.residue.proofs.Laws.{mul_p_word}
 use Rattle.table.specs.Columns.{REGISTER-NUM, COL-IS-EXT-LINE}
-use Rattle.table.specs.CpuStark.{selectors_binary}
-use Rattle.table.proofs.Rows.{places}
 use Rattle.parts.specs.Parts.{up_to}
-use Rattle.parts.proofs.Laws.{filled, up_to-none, up_to-step, part_at, each-is}
-use Rattle.row_sums.proofs.Laws.{part-canonical}
 use Rattle.cpu_instruction.proofs.operands.selectors_binary.Given as goal
 
 abbrev pub invariant-loop-i : goal.invariant-loop-i

@@ -1,15 +1,14 @@
 -- `cpu_opcode_selector::selectors::opcode_selectors_binary` meets its contract.
-use Prim.Native.Nat.{◌+◌, ◌≤◌, ◌<◌, ◌-◌}
+use Prim.Native.Nat.{◌<◌}
 use mathlib.Core.Path.{◌≡◌, refl, sym, ◌∙◌}
 use native.Mathlib.Omega.{arith}
-use lib.ListN.{length, take, get_or, length-set}
+use lib.ListN.{length, length-set}
 use Rattle.algebra.specs.Expr.{eval}
-use Rattle.residue.specs.Residues.{sub_p, mul_p}
+use Rattle.residue.specs.Residues.{sub_p}
 use Rattle.residue.proofs.Laws.{mul_p_word}
 use Rattle.table.specs.Columns.{COL-S-SIMPLE-ARITHMATIC-OP, NUM-OP-SELECTOR}
 use Rattle.table.specs.CpuStark.{opcode_selectors_binary}
 use Rattle.table.proofs.Rows.{places, part_length}
-use Rattle.parts.specs.Parts.{up_to}
 use Rattle.parts.proofs.Laws.{filled, up_to-none, up_to-step, part_at, each-is}
 use Rattle.row_sums.proofs.Laws.{part-canonical}
 use Rattle.cpu_opcode_selector.proofs.selectors.opcode_selectors_binary.Goals as goal

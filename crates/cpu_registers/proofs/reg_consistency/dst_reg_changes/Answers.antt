@@ -1,9 +1,9 @@
 -- `cpu_registers::reg_consistency::dst_reg_changes` meets its contract.
-use Prim.Native.Nat.{ℕ, ◌≤◌, ◌<◌, ◌-◌}
+use Prim.Native.Nat.{ℕ, ◌<◌}
 use mathlib.Core.Path.{◌≡◌, refl, sym, ap, ap₂, ◌∙◌}
 use mathlib.Core.List.{List, []}
 use native.Mathlib.Omega.{arith}
-use lib.ListN.{length, take, get_or, length-set}
+use lib.ListN.{length, length-set}
 use Rattle.algebra.specs.Expr.{var, ◌⊖◌, ◌⊗◌, eval}
 use Rattle.residue.specs.Residues.{residues, sub_p, mul_p}
 use Rattle.residue.proofs.Laws.{mul_p_word}
@@ -13,10 +13,8 @@ use Rattle.table.specs.Cells.{cells, z_last}
 use Rattle.table.specs.Entry.{𝟙}
 use Rattle.table.specs.CpuStark.{multi_reg_change, dst_reg_changes}
 use Rattle.table.proofs.Rows.{places, part-below}
-use Rattle.parts.specs.Parts.{up_to}
 use Rattle.parts.proofs.Laws.{filled, up_to-none, up_to-step, each-is}
 use Rattle.cpu_registers.proofs.Laws.{kept_of}
-use Rattle.cpu_registers.proofs.Calls.{multi_reg_change-below}
 use Rattle.cpu_registers.proofs.reg_consistency.dst_reg_changes.Goals as goal
 use Rattle.cpu_registers.proofs.reg_consistency.dst_reg_changes.Goals.{Start}
 
@@ -36,7 +34,7 @@ pub multi_reg_change-requires : goal.multi_reg_change-requires
 multi_reg_change-requires c = search local_row
 
 pub sub-requires : goal.sub-requires
-sub-requires c = search (places, multi_reg_change-below)
+sub-requires c = search places
 
 pub loop-i-init : goal.loop-i-init
 loop-i-init c = (omega arith, refl, search up_to-none)

@@ -1,19 +1,8 @@
-use Prim.Native.Nat.{◌≤◌, ◌<◌, ◌-◌}
-use mathlib.Core.Path.{◌≡◌, refl, sym, ap₂, ◌∙◌}
-use native.Mathlib.Omega.{arith}
-use lib.ListN.{length, take, get_or, length-set}
-use Rattle.algebra.specs.Expr.{◌⊖◌}
+use Prim.Native.Nat.{◌≤◌, ◌-◌}
+use mathlib.Core.Path.{◌≡◌}
+use lib.ListN.{length, take, get_or}
 use Rattle.residue.specs.Residues.{sub_p, mul_p}
-use Rattle.residue.proofs.Laws.{mul_p_word}
-use Rattle.table.specs.Rows.{Row}
-use Rattle.table.specs.Entry.{𝟙}
-use Rattle.table.specs.CpuStark.{multi_reg_change, dst_reg_changes}
-use Rattle.table.proofs.Called.{exprs}
-use Rattle.table.proofs.Rows.{places, part-below}
 use Rattle.parts.specs.Parts.{up_to}
-use Rattle.parts.proofs.Laws.{filled, up_to-none, up_to-step, each-is}
-use Rattle.cpu_registers.proofs.Laws.{kept_of}
-use Rattle.cpu_registers.proofs.Calls.{multi_reg_change_of, multi_reg_change-below}
 use Rattle.cpu_registers.proofs.reg_consistency.dst_reg_changes.Given as goal
 
 abbrev pub invariant-loop-i : goal.invariant-loop-i

@@ -1,9 +1,8 @@
 -- `stage_context::cpu_stark::constraint_ext_lines` meets its contract.
 use mathlib.Core.Path.{sym}
-use Prim.Native.Nat.{◌+◌, ◌^◌, ◌<◌, ◌≤◌}
+use Prim.Native.Nat.{◌+◌, ◌≤◌}
 use native.Mathlib.Omega.{arith}
 use lib.ListN.{length}
-use borrow.Author.Rules.{rules}
 use Rattle.table.specs.CpuStark.{constraint_ext_lines}
 use Rattle.parts.proofs.Written.{put_of, put_next}
 use Rattle.cpu_ext_lines.proofs.Groups.{groups}
@@ -20,7 +19,7 @@ overflow_add-at-3 c = omega (arith, c.requires.room)
 pub put-requires-4 : goal.put-requires-4
 put-requires-4 c =
     let n : c.args.at + 24 + 1 ≤ length c.args.out.now = omega (arith, c.requires.room) in
-    omega (arith, n, c.out-1.given, c.out-2-1.given, c.out-3-1.given)
+    omega (arith, n)
 
 pub returns : goal.returns
 unfolding constraint_ext_lines

@@ -1,9 +1,8 @@
 -- `stage_context::cpu_stark::constraint_tx_init` meets its contract.
 use mathlib.Core.Path.{sym}
-use Prim.Native.Nat.{◌+◌, ◌^◌, ◌<◌, ◌≤◌}
+use Prim.Native.Nat.{◌≤◌}
 use native.Mathlib.Omega.{arith}
 use lib.ListN.{length}
-use borrow.Author.Rules.{rules}
 use Rattle.table.specs.CpuStark.{constraint_tx_init}
 use Rattle.parts.proofs.Written.{put_of, put_next}
 use Rattle.cpu_tx_init.proofs.Groups.{groups}
@@ -19,7 +18,7 @@ overflow_add-at-3 c = omega (arith, c.requires.room)
 
 pub put-requires-4 : goal.put-requires-4
 put-requires-4 c =
-    omega (arith, c.requires.room, c.out-1.given, c.out-2-1.given, c.out-3-1.given)
+    omega (arith, c.requires.room)
 
 pub returns : goal.returns
 unfolding constraint_tx_init

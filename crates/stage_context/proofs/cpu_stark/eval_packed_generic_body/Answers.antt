@@ -3,7 +3,6 @@ use mathlib.Core.Path.{sym}
 use Prim.Native.Nat.{◌≤◌}
 use native.Mathlib.Omega.{arith}
 use lib.ListN.{length}
-use borrow.Author.Rules.{rules}
 use Rattle.table.specs.CpuStark.{eval_packed_generic_body}
 use Rattle.parts.proofs.Written.{put_of, put_next}
 use Rattle.cpu_context.proofs.Groups.{groups}

@@ -3,7 +3,6 @@ use mathlib.Core.Path.{sym}
 use Prim.Native.Nat.{◌≤◌}
 use native.Mathlib.Omega.{arith}
 use lib.ListN.{length}
-use borrow.Author.Rules.{rules}
 use Rattle.table.specs.CpuStark.{constraint_opcode_selector}
 use Rattle.parts.proofs.Written.{put_of, put_next}
 use Rattle.cpu_opcode_selector.proofs.Groups.{groups}

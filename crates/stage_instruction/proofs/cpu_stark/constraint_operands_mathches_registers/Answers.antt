@@ -1,9 +1,8 @@
 -- `stage_instruction::cpu_stark::constraint_operands_mathches_registers` meets its contract.
 use mathlib.Core.Path.{sym}
-use Prim.Native.Nat.{◌+◌, ◌^◌, ◌<◌, ◌≤◌}
+use Prim.Native.Nat.{◌≤◌}
 use native.Mathlib.Omega.{arith}
 use lib.ListN.{length}
-use borrow.Author.Rules.{rules}
 use Rattle.table.specs.CpuStark.{constraint_operands_mathches_registers}
 use Rattle.parts.proofs.Written.{put_of, put_next}
 use Rattle.cpu_instruction.proofs.Groups.{groups}

@@ -1,9 +1,8 @@
 -- `stage_opcodes::call_sc::call_sc_up_to_regs` meets its contract.
 use mathlib.Core.Path.{sym}
-use Prim.Native.Nat.{◌+◌, ◌^◌, ◌<◌, ◌≤◌}
+use Prim.Native.Nat.{◌≤◌}
 use native.Mathlib.Omega.{arith}
 use lib.ListN.{length}
-use borrow.Author.Rules.{rules}
 use Rattle.parts.proofs.Written.{put_of, put_next}
 use Rattle.cpu_call_sc.proofs.Groups.{groups}
 use Rattle.cpu_after_call_sc.proofs.Groups.{groups as after-groups}
@@ -25,7 +24,7 @@ overflow_add-at-3 c = omega (arith, c.requires.room)
 
 pub put-requires-4 : goal.put-requires-4
 put-requires-4 c =
-    omega (arith, c.requires.room, c.out-1.given, c.out-2-1.given, c.out-3-1.given)
+    omega (arith, c.requires.room)
 
 pub returns : goal.returns
 returns c = sym (search (put_next, put_of, groups, after-groups, lengths, room) depth 30 fits 100000)

@@ -1,9 +1,8 @@
 -- `stage_opcodes::call_sc::eval_packed_generic` meets its contract.
 use mathlib.Core.Path.{sym}
-use Prim.Native.Nat.{◌+◌, ◌^◌, ◌<◌, ◌≤◌}
+use Prim.Native.Nat.{◌+◌, ◌≤◌}
 use native.Mathlib.Omega.{arith}
 use lib.ListN.{length}
-use borrow.Author.Rules.{rules}
 use Rattle.table.specs.CallSc.{call_sc}
 use Rattle.parts.proofs.Written.{put_of, put_next}
 use Rattle.cpu_after_call_sc.proofs.Groups.{groups}
@@ -29,7 +28,7 @@ overflow_add-at-3 c = omega (arith, c.requires.room)
 pub put-requires-3 : goal.put-requires-3
 put-requires-3 c =
     let n : c.args.at + 34 + 8 ≤ length c.args.out.now = omega (arith, c.requires.room) in
-    omega (arith, n, c.out-1.given, c.out-2-1.given, c.out-3-1.given)
+    omega (arith, n)
 
 pub returns : goal.returns
 unfolding call_sc
