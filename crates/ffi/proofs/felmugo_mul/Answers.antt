@@ -1,6 +1,5 @@
 -- `ffi::felmugo_mul` meets its contract.
 use mathlib.Core.Path.{ap, ◌∙◌}
-use borrow.Author.Rules.{rules}
 use Rattle.flat.specs.Flat.{flat_residue}
 use Rattle.ffi.proofs.felmugo_mul.Goals as goal
 

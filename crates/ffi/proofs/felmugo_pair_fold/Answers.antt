@@ -1,5 +1,4 @@
 -- `ffi::felmugo_pair_fold` meets its contract.
-use borrow.Author.Rules.{rules}
 use Rattle.ffi.proofs.felmugo_pair_fold.Goals as goal
 
 pub returns : goal.returns

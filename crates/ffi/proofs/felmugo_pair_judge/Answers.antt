@@ -1,6 +1,5 @@
 -- `ffi::felmugo_pair_judge` meets its contract.
 use mathlib.Core.Path.{ap, ◌∙◌}
-use borrow.Author.Rules.{rules}
 use Rattle.flat.specs.Flat.{flat_verdict}
 use Rattle.ffi.proofs.felmugo_pair_judge.Goals as goal
 

@@ -1,6 +1,5 @@
 -- `ffi::felmugo_run_report` meets its contract.
 use mathlib.Core.Path.{ap, ◌∙◌}
-use borrow.Author.Rules.{rules}
 use Rattle.flat.specs.Flat.{flat_report}
 use Rattle.ffi.proofs.felmugo_run_report.Goals as goal
 

@@ -1,6 +1,5 @@
 -- `ffi::felmugo_signed` meets its contract.
 use mathlib.Core.Path.{ap, ◌∙◌}
-use borrow.Author.Rules.{rules}
 use Rattle.flat.specs.Flat.{flat_signed}
 use Rattle.ffi.proofs.felmugo_signed.Goals as goal
 
