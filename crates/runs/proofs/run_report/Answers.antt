@@ -1,6 +1,5 @@
 -- `runs::run_report` meets its contract.
 use mathlib.Core.Path.{sym, ◌∙◌}
-use borrow.Author.Rules.{rules}
 use Rattle.runs.proofs.Found.{report_refused, report_done}
 use Rattle.runs.proofs.run_report.Goals as goal
 
