@@ -177,7 +177,7 @@ def main():
     edits = files("*/must-fail/*.edit")
     for path in specs + proofs + files("*/src/**/*.rt") + edits:
         respell(path, turned, fields, where, both)
-    pages = [p for p in glob.glob(f"{TOP}/*.md") + glob.glob(f"{TOP}/**/*.md", recursive=True) if "/out/" not in p and "/target/" not in p]
+    pages = [p for p in glob.glob(f"{TOP}/*.md") + glob.glob(f"{TOP}/**/*.md", recursive=True) if not re.search("/(out|target|landings)/", p)]
     for path in sorted(set(pages)):
         text = open(path, encoding="utf-8").read()
         new = re.sub(r"`[^`\n]*`", lambda m: NAME.sub(lambda n: turned.get(n.group(0), n.group(0)), m.group(0)), text)
