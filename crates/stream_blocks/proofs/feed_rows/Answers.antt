@@ -1,15 +1,13 @@
 -- `stream_blocks::feed_rows` meets its contract: after i rows the state and the texts are those of the first i rows.
 use mathlib.Core.Path.{◌≡◌, refl, sym, ap, ◌∙◌}
 use mathlib.Core.Bool.{false≢true}
-use Prim.Native.Nat.{◌+◌, ◌-◌, ◌*◌, ◌≤◌}
+use Prim.Native.Nat.{◌+◌, ◌-◌, ◌*◌}
 use native.Mathlib.Omega.{arith}
-use lib.ListN.{length}
 use borrow.Author.Rules.{rules}
 use borrow.Author.Tests.{not-true, not-false}
 use Rattle.text.proofs.Puts.{put-within}
-use Rattle.stream_text.specs.Text.{text_by}
 use Rattle.stream_model.specs.declared.State.{State}
-use Rattle.stream_model.proofs.Fed.{Fed, fed_none, fed_more, fed_still}
+use Rattle.stream_model.proofs.Fed.{fed_none, fed_more, fed_still}
 use Rattle.stream_blocks.proofs.feed_rows.Goals as goal
 
 pub loop-i-init : goal.loop-i-init

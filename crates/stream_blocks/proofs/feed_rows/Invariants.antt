@@ -1,14 +1,8 @@
-use mathlib.Core.Path.{◌≡◌, refl, sym, ap, ◌∙◌}
-use mathlib.Core.Bool.{false≢true}
-use Prim.Native.Nat.{◌+◌, ◌-◌, ◌*◌, ◌≤◌}
-use native.Mathlib.Omega.{arith}
+use mathlib.Core.Path.{◌≡◌}
+use Prim.Native.Nat.{◌-◌, ◌≤◌}
 use lib.ListN.{length}
-use borrow.Author.Rules.{rules}
-use borrow.Author.Tests.{not-true, not-false}
-use Rattle.text.proofs.Puts.{put-within}
 use Rattle.stream_text.specs.Text.{text_by}
-use Rattle.stream_model.specs.declared.State.{State}
-use Rattle.stream_model.proofs.Fed.{Fed, fed_none, fed_more, fed_still}
+use Rattle.stream_model.proofs.Fed.{Fed}
 use Rattle.stream_blocks.proofs.feed_rows.Given as goal
 
 abbrev pub invariant-loop-i : goal.invariant-loop-i

@@ -1,12 +1,11 @@
 -- `stream_cases::agrees` meets its contract.
-use mathlib.Core.Bool.{false≢true}
 use native.Mathlib.Omega.{arith}
 use borrow.Author.Rules.{rules}
-use borrow.Author.Tests.{not-false, eqb-true}
+use borrow.Author.Tests.{eqb-true}
 use Rattle.text.proofs.Puts.{put_counts}
 use Rattle.stream_text.specs.Text.{text_by}
-use Rattle.stream_model.proofs.Onward.{left, left_less}
-use Rattle.stream_cases.proofs.Laws.{Printed, printed_start, printed_row, printed_all}
+use Rattle.stream_model.proofs.Onward.{left_less}
+use Rattle.stream_cases.proofs.Laws.{printed_start, printed_row, printed_all}
 use Rattle.stream_cases.proofs.agrees.Goals as goal
 
 pub slice_bounds-refusal-end : goal.slice_bounds-refusal-end

@@ -1,11 +1,6 @@
-use mathlib.Core.Bool.{false≢true}
-use native.Mathlib.Omega.{arith}
-use borrow.Author.Rules.{rules}
-use borrow.Author.Tests.{not-false, eqb-true}
-use Rattle.text.proofs.Puts.{put_counts}
 use Rattle.stream_text.specs.Text.{text_by}
-use Rattle.stream_model.proofs.Onward.{left, left_less}
-use Rattle.stream_cases.proofs.Laws.{Printed, printed_start, printed_row, printed_all}
+use Rattle.stream_model.proofs.Onward.{left}
+use Rattle.stream_cases.proofs.Laws.{Printed}
 use Rattle.stream_cases.proofs.agrees.Given as goal
 
 abbrev pub invariant-loop-state : goal.invariant-loop-state

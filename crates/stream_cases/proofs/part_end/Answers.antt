@@ -1,6 +1,5 @@
 -- `stream_cases::part_end` meets its contract.
 use native.Mathlib.Omega.{arith}
-use borrow.Author.Rules.{rules}
 use borrow.Author.Tests.{lt-ltb, le-ltb}
 use Rattle.stream_cases.proofs.part_end.Goals as goal
 

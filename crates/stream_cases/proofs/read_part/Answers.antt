@@ -2,7 +2,6 @@
 use mathlib.Core.Path.{sym}
 use native.Mathlib.Omega.{arith}
 use lib.Seq.{length-take-le}
-use borrow.Author.Rules.{rules}
 use Rattle.io.proofs.Counting.{prefix_len_of_le}
 use Rattle.stream_cases.proofs.read_part.Goals as goal
 

@@ -1,5 +1,4 @@
 -- `stream_cases::replay_case` meets its contract.
-use borrow.Author.Rules.{rules}
 use Rattle.stream_cases.proofs.replay_case.Goals as goal
 
 pub slice_bounds-input-end : goal.slice_bounds-input-end

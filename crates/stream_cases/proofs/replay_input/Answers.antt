@@ -1,5 +1,4 @@
 -- `stream_cases::replay_input` meets its contract.
-use borrow.Author.Rules.{rules}
 use Rattle.stream_cases.proofs.replay_input.Goals as goal
 
 pub slice_bounds-expected-end : goal.slice_bounds-expected-end

@@ -1,7 +1,5 @@
 -- `stream_cases::run` meets its contract.
-use Prim.Native.Nat.{◌-◌, ◌≤◌}
 use native.Mathlib.Omega.{arith}
-use borrow.Author.Rules.{rules}
 use Rattle.stream_cases.proofs.run.Goals as goal
 use Rattle.stream_cases.proofs.run.Goals.{in-Agrees, in-Differs}
 

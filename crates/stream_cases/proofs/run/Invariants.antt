@@ -1,7 +1,4 @@
-use mathlib.Core.Logic.{⊎_elim}
 use Prim.Native.Nat.{◌-◌, ◌≤◌}
-use native.Mathlib.Omega.{arith}
-use borrow.Author.Rules.{rules}
 use Rattle.stream_cases.proofs.run.Given as goal
 
 abbrev pub invariant-loop-cases : goal.invariant-loop-cases

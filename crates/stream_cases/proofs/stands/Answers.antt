@@ -1,12 +1,8 @@
 -- `stream_cases::stands` meets its contract.
-use mathlib.Core.Path.{◌≡◌}
-use mathlib.Core.Bool.{false≢true}
-use mathlib.Core.List.{◌++◌}
-use Prim.Native.Nat.{◌+◌, ◌-◌, ◌≤◌, ◌<◌}
+use Prim.Native.Nat.{◌<◌}
 use native.Mathlib.Omega.{arith}
-use lib.ListN.{length, take}
-use borrow.Author.Rules.{rules}
-use Rattle.stream_cases.proofs.Laws.{none_yet, one_more, stands_all}
+use lib.ListN.{length}
+use Rattle.stream_cases.proofs.Laws.{none_yet, one_more}
 use Rattle.stream_cases.proofs.stands.Goals as goal
 
 pub loop-i-init : goal.loop-i-init

@@ -1,6 +1,5 @@
 -- `stream_reading::begin` meets its contract.
 use native.Mathlib.Omega.{arith}
-use borrow.Author.Rules.{rules}
 use Rattle.text.proofs.Puts.{put_counts}
 use Rattle.stream_reading.proofs.begin.Goals as goal
 

@@ -1,6 +1,6 @@
 -- `stream_reading::block` meets its contract: each turn feeds at least a row.
 use mathlib.Core.Path.{◌≡◌, refl, sym}
-use Prim.Native.Nat.{ℕ, ◌+◌, ◌-◌, ◌*◌, ◌/◌, ◌%◌, ◌^◌, ◌≤◌, ◌<◌}
+use Prim.Native.Nat.{ℕ, ◌+◌, ◌-◌, ◌*◌, ◌/◌, ◌≤◌}
 use native.Mathlib.Omega.{arith}
 use native.Mathlib.Nat.{add-zero}
 use mathlib.Core.List.{List}
@@ -8,7 +8,6 @@ use lib.ListN.{length, take, drop}
 use borrow.Author.Rules.{rules}
 use Rattle.text.proofs.Puts.{put_counts}
 use Rattle.stream_model.specs.Rows.{rows_in}
-use Rattle.stream_model.specs.Sound.{Onward}
 use Rattle.stream_reading.proofs.Laws.{rows_left, onward_by, onward_all, onward_ended, kept_onward}
 use Rattle.stream_reading.proofs.block.Goals as goal
 

@@ -1,12 +1,7 @@
-use mathlib.Core.Path.{◌≡◌, refl, sym}
-use Prim.Native.Nat.{◌+◌, ◌-◌, ◌*◌, ◌/◌, ◌%◌, ◌^◌, ◌≤◌, ◌<◌}
-use native.Mathlib.Omega.{arith}
-use native.Mathlib.Nat.{add-zero}
+use mathlib.Core.Path.{◌≡◌}
+use Prim.Native.Nat.{◌-◌, ◌/◌, ◌%◌, ◌≤◌}
 use lib.ListN.{length}
-use borrow.Author.Rules.{rules}
-use Rattle.text.proofs.Puts.{put_counts}
 use Rattle.stream_model.specs.Sound.{Onward}
-use Rattle.stream_reading.proofs.Laws.{rows_left, onward_by, onward_all, onward_ended, kept_onward}
 use Rattle.stream_reading.proofs.block.Given as goal
 
 abbrev pub invariant-loop-state : goal.invariant-loop-state

@@ -1,7 +1,6 @@
 -- `stream_reading::end` meets its contract.
 use mathlib.Core.Path.{ap, ◌∙◌}
 use native.Mathlib.Omega.{arith}
-use borrow.Author.Rules.{rules}
 use Rattle.text.proofs.Puts.{put_counts}
 use Rattle.stream_model.specs.declared.State.{State}
 use Rattle.stream_model.proofs.Steps.{short_ends}

@@ -1,6 +1,5 @@
 -- `stream_reading::print` meets its contract.
 use mathlib.Core.Bool.{false≢true}
-use borrow.Author.Rules.{rules}
 use Rattle.stream_reading.proofs.print.Goals as goal
 
 pub returns-then-is_err : goal.returns-then-is_err

@@ -1,10 +1,8 @@
 -- `stream_reading::rows` meets its contract: each turn leaves fewer bytes to follow.
-use mathlib.Core.Path.{◌≡◌, refl}
+use mathlib.Core.Path.{refl}
 use native.Mathlib.Omega.{arith}
-use lib.ListN.{length}
 use borrow.Author.Rules.{rules}
-use Rattle.stream_reading.specs.Turns.{Ready}
-use Rattle.stream_reading.proofs.Laws.{left, left_less}
+use Rattle.stream_reading.proofs.Laws.{left_less}
 use Rattle.stream_reading.proofs.rows.Goals as goal
 
 pub loop-reading-init : goal.loop-reading-init

@@ -1,9 +1,7 @@
-use mathlib.Core.Path.{◌≡◌, refl}
-use native.Mathlib.Omega.{arith}
+use mathlib.Core.Path.{◌≡◌}
 use lib.ListN.{length}
-use borrow.Author.Rules.{rules}
 use Rattle.stream_reading.specs.Turns.{Ready}
-use Rattle.stream_reading.proofs.Laws.{left, left_less}
+use Rattle.stream_reading.proofs.Laws.{left}
 use Rattle.stream_reading.proofs.rows.Given as goal
 
 abbrev pub invariant-loop-reading : goal.invariant-loop-reading

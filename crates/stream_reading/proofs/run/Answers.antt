@@ -1,5 +1,4 @@
 -- `stream_reading::run` meets its contract.
-use borrow.Author.Rules.{rules}
 use Rattle.stream_reading.proofs.run.Goals as goal
 
 pub slice_bounds-masks-end : goal.slice_bounds-masks-end

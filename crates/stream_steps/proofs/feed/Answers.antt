@@ -1,5 +1,4 @@
 -- `stream_steps::feed` meets its contract.
-use borrow.Author.Rules.{rules}
 use borrow.Author.Tests.{eq-eqb, ne_eqb}
 use Rattle.stream_text.specs.Text.{text_by}
 use Rattle.stream_model.specs.Model.{feed_of}

@@ -1,5 +1,4 @@
 -- `stream_steps::start` meets its contract.
-use borrow.Author.Rules.{rules}
 use borrow.Author.Tests.{eq-eqb, ne_eqb}
 use Rattle.stream_model.specs.Model.{start_of}
 use Rattle.stream_model.proofs.Laws.{refused_blank}

@@ -1,6 +1,5 @@
 -- `stream_steps::with_masks` meets its contract.
 use mathlib.Core.Path.{refl, sym, ◌∙◌}
-use borrow.Author.Rules.{rules}
 use Rattle.text.proofs.Puts.{put-none}
 use Rattle.stream_model.specs.Model.{masks_of}
 use Rattle.stream_model.proofs.Laws.{refused_blank}
