@@ -1,5 +1,4 @@
 -- `edge_consumer::by_consumer` meets its contract.
-use borrow.Author.Rules.{rules}
 use Rattle.edge_consumer.proofs.Laws.{left_by_consumer}
 use Rattle.edge_consumer.proofs.by_consumer.Goals as goal
 

@@ -1,6 +1,5 @@
 -- `edge_consumer::compare` meets its contract.
 use borrow.Author.Tests.{eq-eqb}
-use borrow.Author.Rules.{rules}
 use Rattle.edge_consumer.proofs.compare.Goals as goal
 
 pub expect-requires : goal.expect-requires

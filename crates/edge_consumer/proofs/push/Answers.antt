@@ -1,5 +1,4 @@
 -- `edge_consumer::push` meets its contract.
-use borrow.Author.Rules.{rules}
 use Rattle.edge_consumer.proofs.Laws.{by_transition, by_first, by_plain}
 use Rattle.edge_consumer.proofs.push.Goals as goal
 

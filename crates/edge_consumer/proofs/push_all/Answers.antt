@@ -1,9 +1,8 @@
 -- `edge_consumer::push_all` meets its contract: what is left of both slices, given to the consumer so far.
-use mathlib.Core.Path.{◌≡◌, refl, sym, ap, ◌∙◌}
-use Prim.Native.Nat.{◌+◌, ◌-◌, ◌<◌, ◌≤◌}
+use mathlib.Core.Path.{refl, sym, ap, ◌∙◌}
+use Prim.Native.Nat.{◌+◌, ◌<◌, ◌≤◌}
 use native.Mathlib.Omega.{arith}
 use lib.ListN.{length, drop}
-use borrow.Author.Rules.{rules}
 use Rattle.consumer.specs.declared.Outcome.{Outcome}
 use Rattle.consumer.specs.Yielded.{taken_all}
 use Rattle.edge_consumer.specs.Calls.{yielded_by}

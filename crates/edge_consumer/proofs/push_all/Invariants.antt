@@ -1,12 +1,8 @@
-use mathlib.Core.Path.{◌≡◌, refl, sym, ap, ◌∙◌}
-use Prim.Native.Nat.{◌+◌, ◌-◌, ◌<◌, ◌≤◌}
-use native.Mathlib.Omega.{arith}
+use mathlib.Core.Path.{◌≡◌}
+use Prim.Native.Nat.{◌-◌, ◌≤◌}
 use lib.ListN.{length, drop}
-use borrow.Author.Rules.{rules}
-use Rattle.consumer.specs.declared.Outcome.{Outcome}
 use Rattle.consumer.specs.Yielded.{taken_all}
 use Rattle.edge_consumer.specs.Calls.{yielded_by}
-use Rattle.edge_consumer.proofs.Laws.{taken_at, taken-end}
 use Rattle.edge_consumer.proofs.push_all.Given as goal
 
 abbrev pub invariant-loop-i : goal.invariant-loop-i

@@ -1,6 +1,5 @@
 -- `edge_signed::both` meets its contract.
 use mathlib.Core.Path.{ap, ◌∙◌}
-use borrow.Author.Rules.{rules}
 use mir.Syntax.{w64}
 use mir.Val.{of_z}
 use mir.ValLaws.{to_z-of_z}

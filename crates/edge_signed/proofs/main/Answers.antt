@@ -1,6 +1,5 @@
 -- `edge_signed::main` meets its contract.
 use mathlib.Core.Path.{refl}
-use borrow.Author.Rules.{rules}
 use Rattle.refusals.specs.Refusal.{canonical}
 use Rattle.field_signed.specs.Signed.{signed_of}
 use Rattle.edge_signed.proofs.main.Goals as goal

@@ -1,6 +1,5 @@
 -- `edge_signed::not_below_p` meets its contract.
 use mathlib.Core.Path.{ap}
-use borrow.Author.Rules.{rules}
 use Rattle.field_signed.specs.Answer.{number}
 use Rattle.field_signed.proofs.Laws.{signed_refused}
 use Rattle.edge_residues.proofs.Operands.{expected}

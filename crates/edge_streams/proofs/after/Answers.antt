@@ -1,12 +1,10 @@
 -- `edge_streams::after` meets its contract.
 use mathlib.Core.Path.{◌≡◌, refl, ap, ◌∙◌}
-use Prim.Native.Nat.{◌-◌, ◌≤◌}
 use native.Mathlib.Omega.{arith}
-use lib.ListN.{length, replicate}
+use lib.ListN.{replicate}
 use borrow.Author.Rules.{rules}
 use Rattle.stream_text.specs.PairLines.{line_of_pair}
 use Rattle.stream_model.specs.Model.{row_bytes, feed_of}
-use Rattle.stream_model.specs.Sound.{Sound}
 use Rattle.stream_model.specs.declared.State.{State}
 use Rattle.worked.specs.Rows.{after}
 use Rattle.edge_streams.proofs.ZeroRows.{masks-taken, row-taken}

@@ -1,14 +1,8 @@
-use mathlib.Core.Path.{◌≡◌, refl, ap, ◌∙◌}
+use mathlib.Core.Path.{◌≡◌}
 use Prim.Native.Nat.{◌-◌, ◌≤◌}
-use native.Mathlib.Omega.{arith}
-use lib.ListN.{length, replicate}
-use borrow.Author.Rules.{rules}
-use Rattle.stream_text.specs.PairLines.{line_of_pair}
-use Rattle.stream_model.specs.Model.{row_bytes, feed_of}
+use lib.ListN.{length}
 use Rattle.stream_model.specs.Sound.{Sound}
-use Rattle.stream_model.specs.declared.State.{State}
 use Rattle.worked.specs.Rows.{after}
-use Rattle.edge_streams.proofs.ZeroRows.{masks-taken, row-taken}
 use Rattle.edge_streams.proofs.after.Given as goal
 
 abbrev pub invariant-loop-i : goal.invariant-loop-i

@@ -1,7 +1,6 @@
 -- `edge_streams::last_text` meets its contract.
 use mathlib.Core.Path.{sym, ap, ◌∙◌}
 use native.Mathlib.Omega.{arith}
-use borrow.Author.Rules.{rules}
 use Rattle.text.proofs.Puts.{put-text, put_counts}
 use Rattle.stream_text.specs.Text.{text_by}
 use Rattle.stream_model.specs.Model.{feed_of}

@@ -1,7 +1,5 @@
 -- `replay::main` meets its contract.
-use Prim.Native.Nat.{◌-◌, ◌≤◌}
 use native.Mathlib.Omega.{arith}
-use borrow.Author.Rules.{rules}
 use Rattle.replay.proofs.main.Goals as goal
 use Rattle.replay.proofs.main.Goals.{in-Agrees, in-Differs}
 

@@ -1,7 +1,4 @@
-use mathlib.Core.Logic.{⊎_elim}
 use Prim.Native.Nat.{◌-◌, ◌≤◌}
-use native.Mathlib.Omega.{arith}
-use borrow.Author.Rules.{rules}
 use Rattle.replay.proofs.main.Given as goal
 
 abbrev pub invariant-loop-pairs : goal.invariant-loop-pairs

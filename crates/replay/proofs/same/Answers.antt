@@ -1,11 +1,8 @@
 -- `replay::same` meets its contract.
-use mathlib.Core.Path.{◌≡◌}
-use mathlib.Core.Bool.{false≢true}
-use Prim.Native.Nat.{◌-◌, ◌≤◌, ◌<◌}
+use Prim.Native.Nat.{◌<◌}
 use native.Mathlib.Omega.{arith}
-use lib.ListN.{length, take}
-use borrow.Author.Rules.{rules}
-use Rattle.replay.proofs.Laws.{one_more, all_same}
+use lib.ListN.{length}
+use Rattle.replay.proofs.Laws.{one_more}
 use Rattle.replay.proofs.same.Goals as goal
 
 pub loop-i-preserved : goal.loop-i-preserved

@@ -1,10 +1,6 @@
 use mathlib.Core.Path.{◌≡◌}
-use mathlib.Core.Bool.{false≢true}
-use Prim.Native.Nat.{◌-◌, ◌≤◌, ◌<◌}
-use native.Mathlib.Omega.{arith}
+use Prim.Native.Nat.{◌-◌, ◌≤◌}
 use lib.ListN.{length, take}
-use borrow.Author.Rules.{rules}
-use Rattle.replay.proofs.Laws.{one_more, all_same}
 use Rattle.replay.proofs.same.Given as goal
 
 abbrev pub invariant-loop-i : goal.invariant-loop-i

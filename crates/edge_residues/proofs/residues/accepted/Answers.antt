@@ -1,6 +1,5 @@
 -- `edge_residues::residues::accepted` meets its contract.
 use mathlib.Core.Path.{refl}
-use borrow.Author.Rules.{rules}
 use Rattle.refusals.specs.Refusal.{canonical}
 use Rattle.checked_residue.specs.Answer.{number}
 use Rattle.edge_residues.proofs.Operands.{expected}

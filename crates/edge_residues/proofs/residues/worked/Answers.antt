@@ -1,6 +1,5 @@
 -- `edge_residues::residues::worked` meets its contract.
 use mathlib.Core.Path.{refl}
-use borrow.Author.Rules.{rules}
 use Rattle.refusals.specs.Refusal.{canonical}
 use Rattle.residue.specs.Residues.{add_p, neg_p, sub_p, mul_p}
 use Rattle.checked_residue.specs.Answer.{value}

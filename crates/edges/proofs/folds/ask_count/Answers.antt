@@ -1,7 +1,6 @@
 -- `edges::folds::ask_count` meets its contract.
 use mathlib.Core.Path.{sym}
 use lib.Seq.{length-take-le}
-use borrow.Author.Rules.{rules}
 use Rattle.edges.proofs.folds.ask_count.Goals as goal
 
 pub slice_bounds-ask-end : goal.slice_bounds-ask-end

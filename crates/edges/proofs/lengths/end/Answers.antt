@@ -1,6 +1,5 @@
 -- `edges::lengths::end` meets its contract.
 use mathlib.Core.Path.{ap, ◌∙◌}
-use borrow.Author.Rules.{rules}
 use Rattle.checked_residue.specs.Answer.{value}
 use Rattle.edges.proofs.lengths.end.Goals as goal
 

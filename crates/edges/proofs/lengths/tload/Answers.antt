@@ -1,6 +1,5 @@
 -- `edges::lengths::tload` meets its contract.
 use mathlib.Core.Path.{ap, ◌∙◌}
-use borrow.Author.Rules.{rules}
 use Rattle.checked_residue.specs.Answer.{value}
 use Rattle.edges.proofs.lengths.tload.Goals as goal
 

@@ -3,7 +3,6 @@ use mathlib.Core.Path.{sym, ap, ◌∙◌}
 use Prim.Native.Nat.{ℕ}
 use lib.ListN.{replicate}
 use lib.Seq.{length-take-le}
-use borrow.Author.Rules.{rules}
 use Rattle.pair_checks.specs.PairValues.{pair_values_refusal}
 use Rattle.worked.specs.Rows.{last_mask, last_column}
 use Rattle.edges.proofs.values.ask.Goals as goal

@@ -3,7 +3,6 @@ use mathlib.Core.Path.{ap}
 use mathlib.Core.List.{List}
 use Prim.Native.Nat.{ℕ, ◌-◌}
 use lib.ListN.{get_or}
-use borrow.Author.Rules.{rules}
 use Rattle.edges.proofs.values.value.Goals as goal
 
 pub returns : goal.returns

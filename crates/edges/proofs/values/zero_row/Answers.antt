@@ -4,7 +4,6 @@ use mathlib.Core.List.{List}
 use Prim.Native.Nat.{ℕ}
 use lib.ListN.{get_or}
 use borrow.Author.Tests.{eq-eqb}
-use borrow.Author.Rules.{rules}
 use Rattle.tally.specs.Tally.{nonzeros}
 use Rattle.edges.proofs.Answers.{zero-row_written}
 use Rattle.edges.proofs.values.zero_row.Goals as goal
