@@ -2,7 +2,7 @@
 #![tactic(auto)]
 
 ghost use Rattle.std.specs.Prelude.{◌≡◌, length};
-ghost use Rattle.refusals.specs.Refusal.{lowest, sizes as sizeConditions, contents as contentConditions, mask_contents, canonical as isCanonical, member as isMember, distinct as areDistinct};
+ghost use Rattle.refusals.specs.Refusal.{lowest, sizes as size_conditions, contents as content_conditions, mask_contents, canonical as is_canonical, member as is_member, distinct as are_distinct};
 
 use algebra::P;
 use refusals::{MASK_CONTENTS, MASK_COUNT, ROW_CONTENTS, ROW_LENGTH};
@@ -11,7 +11,7 @@ use table::masks::NUM_MASKS;
 
 // Every number is below p, one after the other.
 fn canonical_each(a: &[u64]) -> bool
-    ensures { result ≡ isCanonical a.now }
+    ensures { result ≡ is_canonical a.now }
 {
     let mut i = 0;
     while i < a.len() {
@@ -26,7 +26,7 @@ fn canonical_each(a: &[u64]) -> bool
 // Every number is below p: in fours, so that the loop turns less often, and then those that are left. Most of
 // what an entry tests is this, of two rows.
 pub fn canonical(a: &[u64]) -> bool
-    ensures { result ≡ isCanonical a.now }
+    ensures { result ≡ is_canonical a.now }
 {
     let n = a.len();
     let mut i = 0;
@@ -50,7 +50,7 @@ pub fn canonical(a: &[u64]) -> bool
 
 // x is among the numbers.
 fn member(x: u64, a: &[u64]) -> bool
-    ensures { result ≡ isMember x a.now }
+    ensures { result ≡ is_member x a.now }
 {
     let mut i = 0;
     while i < a.len() {
@@ -64,7 +64,7 @@ fn member(x: u64, a: &[u64]) -> bool
 
 // No two numbers are equal.
 fn distinct(a: &[u64]) -> bool
-    ensures { result ≡ areDistinct a.now }
+    ensures { result ≡ are_distinct a.now }
 {
     let mut i = 0;
     while i < a.len() {
@@ -79,7 +79,7 @@ fn distinct(a: &[u64]) -> bool
 
 // The number with which the lengths of the masks and of a pair of rows are turned back; 0 where they are not.
 pub fn sizes(masks: &[u64], lv: &[u64], nv: &[u64]) -> u64
-    ensures { result ≡ lowest (sizeConditions masks.now lv.now nv.now) }
+    ensures { result ≡ lowest (size_conditions masks.now lv.now nv.now) }
 {
     if lv.len() != NUM_CPU_COLS {
         return ROW_LENGTH;
@@ -107,7 +107,7 @@ pub fn mask_contents(masks: &[u64]) -> bool
 // The number with which the contents of the masks and of a pair of rows are turned back; 0 where they are not.
 pub fn contents(masks: &[u64], lv: &[u64], nv: &[u64]) -> u64
     requires { length masks.now ≡ 25 }
-    ensures { result ≡ lowest (contentConditions masks.now lv.now nv.now) }
+    ensures { result ≡ lowest (content_conditions masks.now lv.now nv.now) }
 {
     if mask_contents(masks) {
         return MASK_CONTENTS;

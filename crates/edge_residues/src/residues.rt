@@ -3,14 +3,14 @@ ghost use Rattle.std.specs.Prelude.{◌≡◌, ◌≤◌};
 ghost use Rattle.algebra.specs.Prime.{p};
 ghost use Rattle.residue.specs.Residues.{add_p, sub_p, mul_p};
 ghost use Rattle.checked_residue.specs.Answer.{checked};
-ghost use Rattle.checked_residue.specs.Answer.{number as Answer·number, value as Answer·value};
+ghost use Rattle.checked_residue.specs.Answer.{number as answer_number, value as answer_value};
 
 use algebra::P;
 use checked_residue::Residue;
 
 // Document 01's number of an answer.
 pub fn number(r: Residue) -> u64
-    ensures { result ≡ Answer·number r }
+    ensures { result ≡ answer_number r }
 {
     match r {
         Residue::Value(_) => 0,
@@ -20,7 +20,7 @@ pub fn number(r: Residue) -> u64
 
 // Document 01's value of an answer.
 pub fn value(r: Residue) -> u64
-    ensures { result ≡ Answer·value r }
+    ensures { result ≡ answer_value r }
 {
     match r {
         Residue::Value(v) => v,

@@ -7,7 +7,7 @@ ghost use Rattle.algebra.specs.Prime.{p};
 ghost use Rattle.refusals.specs.Refusal.{greatest};
 ghost use Rattle.checked_residue.specs.declared.Residue.TheVariants.{Value as Given};
 ghost use Rattle.field_signed.specs.declared.Signed.TheVariants.{Value};
-ghost use Rattle.field_signed.specs.Answer.{to_signed, to_residue, number as Answer·number, value as Answer·value};
+ghost use Rattle.field_signed.specs.Answer.{to_signed, to_residue, number as answer_number, value as answer_value};
 
 use algebra::P;
 use checked_residue::Residue;
@@ -16,7 +16,7 @@ use field_signed::{GREATEST, Signed};
 
 // Document 01's number of an answer.
 fn number(s: Signed) -> u64
-    ensures { result ≡ Answer·number s }
+    ensures { result ≡ answer_number s }
 {
     match s {
         Signed::Value(_) => 0,
@@ -26,7 +26,7 @@ fn number(s: Signed) -> u64
 
 // Its value.
 fn value(s: Signed) -> i64
-    ensures { result ≡ Answer·value s }
+    ensures { result ≡ answer_value s }
 {
     match s {
         Signed::Value(z) => z,

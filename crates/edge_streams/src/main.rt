@@ -6,7 +6,7 @@ ghost use Rattle.std.specs.Prelude.{◌≡◌, [], ◌≤◌};
 ghost use Rattle.stream_text.specs.Text.{text_by};
 ghost use Rattle.stream_model.specs.Model.{feed_of};
 ghost use Rattle.stream_model.specs.Sound.{Sound};
-ghost use Rattle.worked.specs.Rows.{after as stateAfter};
+ghost use Rattle.worked.specs.Rows.{after as state_after};
 
 use stream_model::{ROW_BYTES, State};
 use stream_text::{PAIR_BYTES, Text};
@@ -14,7 +14,7 @@ use stream_text::{PAIR_BYTES, Text};
 // The state after n zero rows. The masks 2^0..2^24 come first, eight bytes each, low byte first.
 fn after(n: usize) -> State
     requires { n ≤ 65536 }
-    ensures state { result ≡ stateAfter n }
+    ensures state { result ≡ state_after n }
     ensures sound { Sound result }
 {
     let row = [0u8; ROW_BYTES];
@@ -49,7 +49,7 @@ fn last_text(
     expected: &[u8],
 )
     requires rows { n ≤ 65536 }
-    requires expected { expected.now ≡ (feed_of (text_by text) (stateAfter n) bytes.now).text }
+    requires expected { expected.now ≡ (feed_of (text_by text) (state_after n) bytes.now).text }
 {
     let mut out = [0u8; PAIR_BYTES];
     let step = stream_steps::feed(text, after(n), bytes, &mut out, 0);
@@ -62,8 +62,8 @@ fn last_text(
 
 // "0, 1, 65,536, 65,537 rows"   (document 01): of one row and of the most, what is expected is handed over.
 fn edges(rt: HostRuntime, text: Text, name: &[u8], one: &[u8], most: &[u8])
-    requires one { one.now ≡ (feed_of (text_by text) (stateAfter 1) []).text }
-    requires most { most.now ≡ (feed_of (text_by text) (stateAfter 65536) []).text }
+    requires one { one.now ≡ (feed_of (text_by text) (state_after 1) []).text }
+    requires most { most.now ≡ (feed_of (text_by text) (state_after 65536) []).text }
 {
     let row = [0u8; ROW_BYTES];
     last_text(rt, text, name, b", 0 rows: ", 0, b"", b"refused 1\n");

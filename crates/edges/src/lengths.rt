@@ -1,9 +1,9 @@
 // The lengths of ext lines.
 ghost use Rattle.std.specs.Prelude.{◌≡◌};
-ghost use Rattle.checked_residue.specs.Answer.{value as Answer·value};
+ghost use Rattle.checked_residue.specs.Answer.{value as answer_value};
 ghost use Rattle.table.specs.CpuStark.{lv_ext_length};
 ghost use Rattle.row_values.specs.RowValue.{row_value};
-ghost use Rattle.worked.specs.Rows.{tload as tloadRow, end as endRow};
+ghost use Rattle.worked.specs.Rows.{tload as tload_row, end as end_row};
 
 use edge_residues::lines;
 use edge_residues::residues::value;
@@ -11,7 +11,7 @@ use table::columns::{COL_IS_ENTRY_SC, COL_OP0, COL_OP1, COL_S_END, COL_S_TLOAD, 
 
 // The length of a TLOAD, and of an END, printed behind the words.
 fn tload(rt: HostRuntime, words: &[u8], op0: u64, op1: u64) -> u64
-    ensures { result ≡ Answer·value (row_value lv_ext_length (tloadRow op0 op1)) }
+    ensures { result ≡ answer_value (row_value lv_ext_length (tload_row op0 op1)) }
 {
     let mut row = [0u64; NUM_CPU_COLS];
     row[COL_S_TLOAD] = 1;
@@ -23,7 +23,7 @@ fn tload(rt: HostRuntime, words: &[u8], op0: u64, op1: u64) -> u64
 }
 
 fn end(rt: HostRuntime, words: &[u8], entry: u64) -> u64
-    ensures { result ≡ Answer·value (row_value lv_ext_length (endRow entry)) }
+    ensures { result ≡ answer_value (row_value lv_ext_length (end_row entry)) }
 {
     let mut row = [0u64; NUM_CPU_COLS];
     row[COL_S_END] = 1;

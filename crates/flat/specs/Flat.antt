@@ -2,9 +2,9 @@
 use Rattle.checked_residue.specs.declared.Residue.{Residue}
 use Rattle.checked_residue.specs.Answer.{number, value}
 use Rattle.field_signed.specs.declared.Signed.{Signed}
-use Rattle.field_signed.specs.Answer.{number as signedNumber, value as signedValue}
+use Rattle.field_signed.specs.Answer.{number as signed_number, value as signed_value}
 use Rattle.answers.specs.declared.Verdict.{Verdict}
-use Rattle.answers.specs.Verdict.{number as verdictNumber, keeps_of}
+use Rattle.answers.specs.Verdict.{number as verdict_number, keeps_of}
 use Rattle.answers.specs.declared.Report.{Report}
 use Rattle.answers.specs.Spot.{found, pair_of, value_of}
 use Rattle.flat.specs.declared.FelmugoResidue.{FelmugoResidue}
@@ -18,11 +18,11 @@ flat_residue r = record { number = number r; value = value r }
 
 -- document 01's number of an answer of the map to signed numbers, and its value
 abbrev pub flat_signed : Signed → FelmugoSigned
-flat_signed s = record { number = signedNumber s; value = signedValue s }
+flat_signed s = record { number = signed_number s; value = signed_value s }
 
 -- document 01's number and meaning of the judge's answer
 abbrev pub flat_verdict : Verdict → FelmugoVerdict
-flat_verdict v = record { number = verdictNumber v; keeps = keeps_of v }
+flat_verdict v = record { number = verdict_number v; keeps = keeps_of v }
 
 -- a run's report, its spot as three numbers
 abbrev pub flat_report : Report → FelmugoReport

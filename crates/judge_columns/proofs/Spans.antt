@@ -28,7 +28,7 @@ use Rattle.judge_columns.proofs.bits.Reads as bits-reads
 use Rattle.judge_columns.proofs.ones.Kinds as ones-fn
 use Rattle.judge_columns.proofs.ones.Reads as ones-reads
 use Rattle.judge_columns.proofs.same.Kinds as same
-use Rattle.judge_columns.proofs.same.Reads as same_Reads
+use Rattle.judge_columns.proofs.same.Reads as same_reads
 use Rattle.judge_columns.proofs.addresses_kept.Kinds as addresses
 use Rattle.judge_columns.proofs.addresses_kept.Reads as addresses-reads
 use Rattle.judge_columns.proofs.chosen.Kinds as chosen
@@ -107,7 +107,7 @@ module _ {Γ : Cx} {u : Mo Γ} (m l n : List ℕ) (z f : ℕ) (R : Rule) where
       (every-is _ _ a.1.1.0 (λ i. eqb (get_or l (a.1.0 + i) 0) 0 || eqb (get_or l (a.1.0 + i) 0) 1) (λ i. bit_is m l n z f r (a.1.0 + i))
       ∙ sym (c.ensures ∙ rw (← d)))
 
-  pub same_of : {ar : ArgsT same.ps Γ.locals} (c : Called same.ps same.r same_Reads.Learnt Γ ar u) → Row l → Row n →
+  pub same_of : {ar : ArgsT same.ps Γ.locals} (c : Called same.ps same.r same_reads.Learnt Γ ar u) → Row l → Row n →
       n ≡ (args_v c.lifetimes same.ps Γ.locals ar u).0.now →
       l ≡ (args_v c.lifetimes same.ps Γ.locals ar u).1.1.0.now →
       R ≡ every (range 0 (args_v c.lifetimes same.ps Γ.locals ar u).1.1.1.1.0) (λ i. nv ((args_v c.lifetimes same.ps Γ.locals ar u).1.0 + i) ≐ lv ((args_v c.lifetimes same.ps Γ.locals ar u).1.1.1.0 + i)) →

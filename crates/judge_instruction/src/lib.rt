@@ -6,7 +6,7 @@ ghost use Rattle.algebra.specs.Prime.{p};
 ghost use Rattle.algebra.specs.Expr.{eval};
 ghost use Rattle.residue.specs.Residues.{residues};
 ghost use Rattle.table.specs.Columns.{COL-OP0, COL-OP1, COL-DST, COL-S-OP0-START, COL-S-OP1-START, COL-S-DST-START};
-ghost use Rattle.table.specs.Cells.{cells, lv as lvOf, nv as nvOf};
+ghost use Rattle.table.specs.Cells.{cells, lv as lv_of, nv as nv_of};
 ghost use Rattle.table.specs.Rows.{Row, Rows};
 ghost use Rattle.rulebook.specs.Rulebook.{word_part, operand_rules, rules_F, rules_G, rules_H};
 ghost use Rattle.judge_columns.specs.Group.{keeps_rules};
@@ -75,7 +75,7 @@ pub fn keeps_instruction_encode(lv: &[u64]) -> bool
 // H, of OP0: main → the selectors are 0 or 1, at most one is 1; a chosen register (current) equals OP0.
 pub fn keeps_op0(lv: &[u64]) -> bool
     requires { Row lv.now }
-    ensures { result ≡ keeps_rules (λ x j. operand_rules x j COL-S-OP0-START lvOf (lvOf COL-OP0)) [] lv.now [] 0 false false }
+    ensures { result ≡ keeps_rules (λ x j. operand_rules x j COL-S-OP0-START lv_of (lv_of COL-OP0)) [] lv.now [] 0 false false }
 {
     let main = lv[COL_IS_EXT_LINE] == 0;
     (!main | bits(lv, COL_S_OP0_START, REGISTER_NUM))
@@ -86,7 +86,7 @@ pub fn keeps_op0(lv: &[u64]) -> bool
 // H, of OP1
 pub fn keeps_op1(lv: &[u64]) -> bool
     requires { Row lv.now }
-    ensures { result ≡ keeps_rules (λ x j. operand_rules x j COL-S-OP1-START lvOf (lvOf COL-OP1)) [] lv.now [] 0 false false }
+    ensures { result ≡ keeps_rules (λ x j. operand_rules x j COL-S-OP1-START lv_of (lv_of COL-OP1)) [] lv.now [] 0 false false }
 {
     let main = lv[COL_IS_EXT_LINE] == 0;
     (!main | bits(lv, COL_S_OP1_START, REGISTER_NUM))
@@ -97,7 +97,7 @@ pub fn keeps_op1(lv: &[u64]) -> bool
 // H, of DST: a chosen register of the next row
 pub fn keeps_dst(lv: &[u64], nv: &[u64]) -> bool
     requires { Rows lv.now nv.now }
-    ensures { result ≡ keeps_rules (λ x j. operand_rules x j COL-S-DST-START nvOf (lvOf COL-DST)) [] lv.now nv.now 0 false false }
+    ensures { result ≡ keeps_rules (λ x j. operand_rules x j COL-S-DST-START nv_of (lv_of COL-DST)) [] lv.now nv.now 0 false false }
 {
     let main = lv[COL_IS_EXT_LINE] == 0;
     (!main | bits(lv, COL_S_DST_START, REGISTER_NUM))

@@ -7,7 +7,7 @@ ghost use Rattle.algebra.specs.Prime.{p};
 ghost use Rattle.table.specs.Rows.{Row};
 ghost use Rattle.text.specs.Put.{Put};
 ghost use Rattle.stream_text.specs.Text.{text_by, pair_bytes};
-ghost use Rattle.stream_model.specs.Model.{blank as blankState, refused_by, pair_text, accept_of, row_of, end_of, feed_of, masks_of, start_of, Gives};
+ghost use Rattle.stream_model.specs.Model.{blank as blank_state, refused_by, pair_text, accept_of, row_of, end_of, feed_of, masks_of, start_of, Gives};
 ghost use Rattle.stream_model.specs.Sound.{Sound, Onward};
 
 use refusals::{MASK_CONTENTS, MASK_COUNT, ROW_CONTENTS, ROW_LENGTH};
@@ -132,7 +132,7 @@ pub fn feed(text: Text, s: State, bytes: &[u8], out: &mut [u8], at: usize) -> St
 
 // The state before the masks are read.
 fn blank() -> State
-    ensures { result ≡ blankState }
+    ensures { result ≡ blank_state }
 {
     State {
         masks: [0u64; NUM_MASKS],

@@ -3,7 +3,7 @@ use mathlib.Core.Path.{ap, ◌∙◌}
 use mir.Syntax.{w64}
 use mir.Val.{of_z}
 use mir.ValLaws.{to_z-of_z}
-use Rattle.checked_residue.specs.Answer.{value as residueValue}
+use Rattle.checked_residue.specs.Answer.{value as residue_value}
 use Rattle.field_signed.specs.Answer.{to_residue, value}
 use Rattle.edge_residues.proofs.Operands.{expected}
 use Rattle.edge_signed.proofs.both.Goals as goal
@@ -16,5 +16,5 @@ expect-requires c =
 pub expect-requires-2 : goal.expect-requires-2
 expect-requires-2 c =
     let read = to_z-of_z w64 _ c.ranges.z in
-    expected residueValue (c.unsigned.ensures ∙ ap to_residue read) c.value-2.ensures
-    (ap residueValue c.requires.1)
+    expected residue_value (c.unsigned.ensures ∙ ap to_residue read) c.value-2.ensures
+    (ap residue_value c.requires.1)
