@@ -7,7 +7,7 @@ use native.Mathlib.Numerals.{add-one}
 use native.Mathlib.Omega.{arith}
 use lib.ListN.{length}
 use lib.Dec.{eqb}
-use borrow.Author.Tests.{eq-eqb, ne_eqb, eqb-true}
+use borrow.Author.Tests.{eq-eqb, ne_eqb, eqb-true, eqb-false}
 use Rattle.refusals.proofs.Laws.{refused_unless, given_unless}
 use Rattle.tally.specs.Tally.{nonzeros, first_from}
 use Rattle.run_pairs.specs.Run.{row_count, pair_at, tabulate, pairs_of, run_refusal}
@@ -90,6 +90,15 @@ module _ (f : ℕ → List ℕ) (n : ℕ) where
             clean = λ e. absurd (omega arith);
             first = simp (ne_eqb (count + 1) 0 (λ e. omega arith)) (simp (ne_eqb _ _ b) at k.first);
           }
+
+      -- either, whichever the count says
+      pub failed : (s : Spot) → (nonzeros (f i) ≡ 0 → ⊥) → (count ≡ 0 → s ≡ At i (first_from 1 (f i))) → ((count ≡ 0 → ⊥) → s ≡ spot) →
+          Found f n (i + 1) (count + 1) s
+      failed s z a b = go (eqb count 0) refl
+        where
+          go : (t : Bool) → eqb count 0 ≡ t → Found f n (i + 1) (count + 1) s
+          go true p = let e = a (eqb-true count 0 p) in rw e (failed_first z (eqb-true count 0 p))
+          go false p = let e = b (eqb-false count 0 p) in rw e (failed_more z (eqb-false count 0 p))
 
   found_all : (i count : ℕ) (spot : Spot) → Found f n i count spot → n ≤ i
       → (count ≡ failing (tabulate f 0 n)) × (spot ≡ spot_from 0 (tabulate f 0 n))

@@ -44,11 +44,11 @@ counted_all a i count lowest k h =
     (omega (arith, k.counts), sym (or-none lowest) ∙ ap (λ (l : List ℕ). or_else lowest (first_from (i + 1) l)) (sym e) ∙ k.first)
 
 module _ (a : List ℕ) (i : ℕ) where
-  nonzeros-at : i < length a → nonzeros (drop i a) ≡ cond (eqb (get_or a i 0) 0) (nonzeros (drop (i + 1) a)) (suc (nonzeros (drop (i + 1) a)))
+  pub nonzeros-at : i < length a → nonzeros (drop i a) ≡ cond (eqb (get_or a i 0) 0) (nonzeros (drop (i + 1) a)) (suc (nonzeros (drop (i + 1) a)))
   unfolding nonzeros
   nonzeros-at h = ap nonzeros (front a i h)
 
-  first-at : i < length a → first_from (i + 1) (drop i a) ≡ cond (eqb (get_or a i 0) 0) (first_from (i + 1 + 1) (drop (i + 1) a)) (i + 1)
+  pub first-at : i < length a → first_from (i + 1) (drop i a) ≡ cond (eqb (get_or a i 0) 0) (first_from (i + 1 + 1) (drop (i + 1) a)) (i + 1)
   unfolding first_from
   first-at h = ap (first_from (i + 1)) (front a i h) ∙ rw (add-one (i + 1))
 

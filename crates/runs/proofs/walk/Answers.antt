@@ -6,9 +6,9 @@ use Rattle.tally.specs.declared.Tally.{Tally}
 use Rattle.run_pairs.specs.Run.{row_count}
 use Rattle.run_pairs.proofs.Parts.{some-row}
 use Rattle.answers.specs.declared.Spot.TheVariants.{At}
-use Rattle.runs.proofs.Found.{found_none, passed, failed_first, failed_more, found-report}
+use Rattle.runs.proofs.Found.{found_none, passed, failed, found-report}
 use Rattle.runs.proofs.walk.Goals as goal
-use Rattle.runs.proofs.walk.Goals.{then-t-ne0, then-failing-eq0, else-failing-eq0, else-t-ne0}
+use Rattle.runs.proofs.walk.Goals.{then-t-ne0, else-t-ne0}
 
 pub loop-i-init : goal.loop-i-init
 loop-i-init c = found_none _ _
@@ -29,10 +29,7 @@ loop-i-preserved c =
     let z = ap (λ (t : Tally). t.count) e in
     let y = ap (λ (t : Tally). At c.loop-i.i t.lowest) e in
     elim c.if-t-ne0.branch [
-      | then-t-ne0 w ↦ elim w.if-failing-eq0.branch [
-        | then-failing-eq0 v ↦ rw (w.failing-is, w.spot-is, v.spot-is ∙ y) (failed_first _ _ _ h _ _ c.loop-i.invariant (λ q. w.if-t-ne0.true (z ∙ q)) v.if-failing-eq0.true)
-        | else-failing-eq0 v ↦ rw (w.failing-is, w.spot-is, v.spot-is) (failed_more _ _ _ h _ _ c.loop-i.invariant (λ q. w.if-t-ne0.true (z ∙ q)) v.if-failing-eq0.false)
-      ]
+      | then-t-ne0 w ↦ rw (w.failing-is, w.spot-is) (failed _ _ _ h _ _ c.loop-i.invariant _ (λ q. w.if-t-ne0.true (z ∙ q)) (λ b. grind (arith, y)) (λ b. grind arith))
       | else-t-ne0 w ↦ rw (w.failing-is, w.spot-is) (passed _ _ _ h _ _ c.loop-i.invariant (sym z ∙ w.if-t-ne0.false))
     ]
 

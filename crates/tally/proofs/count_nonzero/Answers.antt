@@ -2,9 +2,9 @@
 use Prim.Native.Nat.{◌<◌}
 use native.Mathlib.Omega.{arith}
 use lib.ListN.{length}
-use Rattle.tally.proofs.Laws.{counted_none, counted_all, skipped, found, more}
+use Rattle.std.proofs.lemmas.Bool.Decides.{nat_tests}
+use Rattle.tally.proofs.Laws.{counted_none, counted_all, nonzeros-at, first-at}
 use Rattle.tally.proofs.count_nonzero.Goals as goal
-use Rattle.tally.proofs.count_nonzero.Goals.{then-values-i-ne0+then-lowest-eq0, then-values-i-ne0+else-lowest-eq0, else-values-i-ne0}
 
 pub loop-i-init : goal.loop-i-init
 loop-i-init c = counted_none _
@@ -12,11 +12,7 @@ loop-i-init c = counted_none _
 pub loop-i-preserved : goal.loop-i-preserved
 loop-i-preserved c =
     let h : c.loop-i.i < length c.args.values.now = omega arith in
-    elim c.if-values-i-ne0.branch [
-      | then-values-i-ne0+then-lowest-eq0 w ↦ rw (w.count-is, w.lowest-is) (found _ _ _ _ c.loop-i.invariant h w.if-values-i-ne0.true w.if-lowest-eq0.true)
-      | then-values-i-ne0+else-lowest-eq0 w ↦ rw (w.count-is, w.lowest-is) (more _ _ _ _ c.loop-i.invariant h w.if-values-i-ne0.true w.if-lowest-eq0.false)
-      | else-values-i-ne0 w ↦ rw (w.count-is, w.lowest-is) (skipped _ _ _ _ c.loop-i.invariant h w.if-values-i-ne0.false)
-    ]
+    grind (arith, nat_tests, nonzeros-at c.args.values.now c.loop-i.i h, first-at c.args.values.now c.loop-i.i h)
 
 pub returns : goal.returns
 returns c =
