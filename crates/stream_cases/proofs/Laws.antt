@@ -9,7 +9,6 @@ use borrow.Author.Tests.{ltb-true}
 use lib.ListN.{length, get_or, take, drop, length-drop, drop_of_length-le}
 use lib.Seq.{take-suc, take_all, drop-drop, take-length}
 use lib.Dec.{ltb}
-use Rattle.io.specs.Counts.{IsPrefixLen}
 use Rattle.text.proofs.Puts.{put-text, put_counts}
 use Rattle.stream_model.specs.Model.{PairText, start_of, feed_of, rows_of, output_of, Stepped, Gives}
 use Rattle.stream_model.specs.Sound.{Sound, Onward}
@@ -17,9 +16,7 @@ use Rattle.stream_model.specs.declared.State.{State}
 use Rattle.stream_model.specs.declared.Step.{Step}
 use Rattle.stream_model.proofs.Laws.{by_cases}
 use Rattle.stream_model.proofs.Steps.{rows_step, ended_steps}
-use Rattle.stream_cases.specs.Case.{Fits, part_end_of, Stands}
-use Rattle.stream_cases.specs.declared.Size.{Size}
-use Rattle.stream_cases.specs.declared.Size.TheVariants.{Bytes}
+use Rattle.stream_cases.specs.Case.{part_end_of, Stands}
 
 -- no byte yet of a text that stands in another
 pub none_yet : (text expected : List ℕ) (at : ℕ) → take (at + 0) expected ≡ take at expected ++ take 0 text
@@ -135,7 +132,3 @@ module _ (text : PairText) where
       k.is
       ∙ ap₂ (λ (x y : List ℕ). x ++ y) (ap (λ (j : ℕ). take j expected) n ∙ take-length expected) (ended_steps text _ s (drop at input) e)
       ∙ append-nil expected
-
--- the bytes of a part that was read
-pub fits_bytes : (r : Size) (n : ℕ) (part : List ℕ) → r ≡ Bytes n → Fits r part → IsPrefixLen n part
-fits_bytes r n part e f = subst (λ (x : Size). Fits x part) e f
