@@ -35,7 +35,9 @@ OTHERS = {"at-end": "at_input_end", "nextRow": "next_row_index", "partEnd": "par
 
 # names that the rule does not reach: with a dot for a namespace, and lemmas over a function's own records
 PLAIN = {"·isRing": "_is_ring", "·isDomain": "_is_domain", "local-row": "local_row", "factor-place": "factor_place",
-         "main-line": "main_line", "all-masks": "all_masks"}
+         "main-line": "main_line", "all-masks": "all_masks", "tload-lengths-ruled": "tload_lengths_ruled",
+         "tload-lengths": "tload_lengths", "instruction-word-ruled": "instruction_word_ruled",
+         "zero-row-folds": "zero_row_folds", "one-zero_row": "one_zero_row"}
 
 
 def is_repo_path(path):

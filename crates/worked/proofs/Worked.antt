@@ -28,7 +28,7 @@ use Rattle.stream_text.specs.PairLines.{line_of_pair}
 use Rattle.stream_text.specs.Faults.{pair_faults, fault_line, faults_text, faults_of_pair}
 use Rattle.stream_model.specs.Model.{PairText, output_of, texts_from, masks_in, run_in}
 use Rattle.stream_model.proofs.Printed.{prints_texts}
-use Rattle.worked.specs.Rows.{powers, zeros, one-zero_row}
+use Rattle.worked.specs.Rows.{powers, zeros, one_zero_row}
 use Rattle.worked.specs.Worked.{Worked, PrintsFaults}
 
 zero_row_values : (f : ℕ)
@@ -36,21 +36,21 @@ zero_row_values : (f : ℕ)
 unfolding pair_values values eval add_p neg_p mul_p open_table
 zero_row_values f = simp (zero-mul f)
 
-pairs-are : pairs_of (run_in 1 one-zero_row) (masks_in one-zero_row) ≡ pair_values powers zeros zeros 0 1 ∷ []
+pairs-are : pairs_of (run_in 1 one_zero_row) (masks_in one_zero_row) ≡ pair_values powers zeros zeros 0 1 ∷ []
 unfolding words little_endian pairs_of tabulate pair_at row_at
 pairs-are = refl
 
 -- whatever a program prints of a pair, it prints that of the one pair
 prints-pair : (text : PairText)
-    → output_of text one-zero_row ≡ text 0 (replicate 103 0 ++ (1 ∷ replicate 43 0) ++ ((p - 1) ∷ replicate 78 0)) ++ []
+    → output_of text one_zero_row ≡ text 0 (replicate 103 0 ++ (1 ∷ replicate 43 0) ++ ((p - 1) ∷ replicate 78 0)) ++ []
 unfolding run_refusal canonical distinct words little_endian texts_from
 prints-pair text =
-    prints_texts text one-zero_row 1 refl refl
+    prints_texts text one_zero_row 1 refl refl
     ∙ ap (texts_from text 0) (pairs-are ∙ ap (λ (vs : List ℕ). vs ∷ []) (zero_row_values 1))
 
-prints_one-zero_row : output_of line_of_pair one-zero_row ≡ 48 ∷ 32 ∷ 50 ∷ 32 ∷ 49 ∷ 48 ∷ 52 ∷ 10 ∷ []
+prints_one_zero_row : output_of line_of_pair one_zero_row ≡ 48 ∷ 32 ∷ 50 ∷ 32 ∷ 49 ∷ 48 ∷ 52 ∷ 10 ∷ []
 unfolding nonzeros first_from line_of decimal_of digits_of
-prints_one-zero_row = prints-pair line_of_pair
+prints_one_zero_row = prints-pair line_of_pair
 
 pub prints_faults : PrintsFaults
 unfolding pair_faults faults_text fault_line signed_of decimal_of digits_of
@@ -64,17 +64,17 @@ worked =
       minus_one_squared = refl;
       half_word_squared = refl;
       zero_minus_one = refl;
-      tload-lengths = (refl, refl, refl);
-      tload-lengths-ruled = (refl, refl, refl);
+      tload_lengths = (refl, refl, refl);
+      tload_lengths_ruled = (refl, refl, refl);
       end_lengths = (refl, refl);
       end_lengths_ruled = (refl, refl);
       instruction_word = λ inst. refl;
       instruction_word_value = refl;
-      instruction-word-ruled = refl;
+      instruction_word_ruled = refl;
       mload_size = refl;
       mload_size_ruled = refl;
       mload_value = refl;
       zero_row_values = zero_row_values;
-      prints_one-zero_row = prints_one-zero_row;
-      zero-row-folds = refl;
+      prints_one_zero_row = prints_one_zero_row;
+      zero_row_folds = refl;
     }

@@ -47,8 +47,8 @@ abbrev pub bytes_of_all : List ℕ → List ℕ
 bytes_of_all [] = []
 bytes_of_all (v ∷ vs) = bytes_of 8 v ++ bytes_of_all vs
 
-abbrev pub one-zero_row : List ℕ
-one-zero_row = bytes_of_all powers ++ bytes_of_all zeros
+abbrev pub one_zero_row : List ℕ
+one_zero_row = bytes_of_all powers ++ bytes_of_all zeros
 
 -- rowdesk's state after the masks and n zero rows
 abbrev pub after : ℕ → State
