@@ -58,7 +58,7 @@ const FEW: usize = 8;
 enum Lost {
     /// A device that is full.
     Full,
-    /// A pipe that nobody reads, where a write is a signal.
+    /// A pipe that nobody reads, where a write may be a signal.
     Closed,
     /// The same, where the signal is ignored.
     ClosedAndIgnored,
