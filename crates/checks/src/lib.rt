@@ -2,7 +2,7 @@
 #![tactic(auto)]
 
 ghost use Rattle.std.specs.Prelude.{◌≡◌, [], ◌∷◌, length, IfOk};
-ghost use Rattle.refusals.specs.Refusal.{lowest, number_of, sizes as size_conditions, mask_contents, row_contents, not_below_p, canonical as is_canonical, distinct as are_distinct};
+ghost use Rattle.refusals.specs.Refusal.{lowest, number_of, sizes as size_conditions, contents as content_conditions, mask_contents, row_contents, not_below_p, canonical as is_canonical, distinct as are_distinct};
 
 use algebra::P;
 use refusals::Refusal;
@@ -68,6 +68,21 @@ pub fn row(words: &[u64]) -> Result<Row, Refusal>
     } else {
         Err(Refusal::RowContents)
     }
+}
+
+// The masks and a pair of rows, as types, of 25 and 94 words.
+pub fn contents<'a>(
+    masks: &'a [u64],
+    lv: &'a [u64],
+    nv: &'a [u64],
+) -> Result<(Masks<'a>, Row<'a>, Row<'a>), Refusal>
+    requires masks { length masks.now ≡ 25 }
+    requires local { length lv.now ≡ 94 }
+    requires next { length nv.now ≡ 94 }
+    ensures number { number_of result ≡ lowest (content_conditions masks.now lv.now nv.now) }
+    ensures value { IfOk result (λ accepted. accepted ≡ (masks.now, lv.now, nv.now)) }
+{
+    Ok((self::masks(masks)?, row(lv)?, row(nv)?))
 }
 
 // A weight, a lone operand or a folded value, as a type.

@@ -25,10 +25,11 @@ pub fn accept<'a>(
     if room < NUM_VALUES {
         return Err(Refusal::ValueBuffer);
     }
+    let (masks, lv, nv) = checks::contents(masks, lv, nv)?;
     Ok(Pair {
-        masks: checks::masks(masks)?,
-        lv: checks::row(lv)?,
-        nv: checks::row(nv)?,
+        masks,
+        lv,
+        nv,
         z_last: checks::residue(z_last)?,
         lagrange_basis_first: checks::residue(lagrange_basis_first)?,
     })
