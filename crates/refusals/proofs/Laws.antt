@@ -116,6 +116,8 @@ canonical-below (x ∷ xs) e (suc i) = canonical-below xs (both_true (ltb x p) (
 -- for an attribute, which names no lemma with a dash
 pub ruleset below_p = (canonical-below)
 
+pub ruleset appended = (canonical-append)
+
 eqb_comm : (a b : ℕ) → eqb a b ≡ eqb b a
 eqb_comm a b = go (eqb a b) refl
   where
