@@ -1,5 +1,3 @@
 pub mod Laws
 pub mod Written
-pub mod Called
-pub mod Pairs
 pub mod Registers
