@@ -1,3 +1,0 @@
-pub mod Laws
-pub mod Calls
-pub mod Groups
