@@ -1,122 +1,99 @@
 // Whether a condition of the refusal table holds, of masks and rows that a caller lent.
 #![tactic(auto)]
 
-ghost use Rattle.std.specs.Prelude.{◌≡◌, length};
-ghost use Rattle.refusals.specs.Refusal.{lowest, sizes as size_conditions, contents as content_conditions, mask_contents, canonical as is_canonical, member as is_member, distinct as are_distinct};
+ghost use Rattle.std.specs.Prelude.{◌≡◌, [], ◌∷◌, length, IfOk};
+ghost use Rattle.refusals.specs.Refusal.{lowest, number_of, sizes as size_conditions, contents as content_conditions, mask_contents, row_contents, not_below_p, canonical as is_canonical, distinct as are_distinct};
 
 use algebra::P;
-use refusals::{MASK_CONTENTS, MASK_COUNT, ROW_CONTENTS, ROW_LENGTH};
+use refusals::Refusal;
+use residue::Residue;
 use table::columns::NUM_CPU_COLS;
 use table::masks::NUM_MASKS;
+use table::{Masks, Row};
 
-// Every number is below p, one after the other.
-fn canonical_each(a: &[u64]) -> bool
-    ensures { result ≡ is_canonical a.now }
+// Every number is below p. No turn ends the loop early, so that several numbers are tested at once.
+pub fn canonical(numbers: &[u64]) -> bool
+    ensures { result ≡ is_canonical numbers.now }
 {
-    let mut i = 0;
-    while i < a.len() {
-        if a[i] >= P {
-            return false;
-        }
-        i += 1;
-    }
-    true
-}
-
-// Every number is below p: in fours, so that the loop turns less often, and then those that are left. Most of
-// what an entry tests is this, of two rows.
-pub fn canonical(a: &[u64]) -> bool
-    ensures { result ≡ is_canonical a.now }
-{
-    let n = a.len();
-    let mut i = 0;
-    while n - i >= 4 {
-        if a[i] >= P {
-            return false;
-        }
-        if a[i + 1] >= P {
-            return false;
-        }
-        if a[i + 2] >= P {
-            return false;
-        }
-        if a[i + 3] >= P {
-            return false;
-        }
-        i += 4;
-    }
-    canonical_each(&a[i..])
-}
-
-// x is among the numbers.
-fn member(x: u64, a: &[u64]) -> bool
-    ensures { result ≡ is_member x a.now }
-{
-    let mut i = 0;
-    while i < a.len() {
-        if a[i] == x {
-            return true;
-        }
-        i += 1;
-    }
-    false
+    numbers.iter().fold(true, |below, &x| below & (x < P))
 }
 
 // No two numbers are equal.
-fn distinct(a: &[u64]) -> bool
-    ensures { result ≡ are_distinct a.now }
+#[tactic(auto, using(refusals::proofs::Laws::distinct_first), unfolding(refusals::specs::Refusal::distinct))]
+fn distinct(numbers: &[u64]) -> bool
+    ensures { result ≡ are_distinct numbers.now }
 {
-    let mut i = 0;
-    while i < a.len() {
-        let next = i + 1;
-        if member(a[i], &a[next..]) {
-            return false;
-        }
-        i = next;
+    match numbers {
+        [] => true,
+        [first, rest @ ..] => !rest.contains(first) && distinct(rest),
     }
-    true
 }
 
-// The number with which the lengths of the masks and of a pair of rows are turned back; 0 where they are not.
-pub fn sizes(masks: &[u64], lv: &[u64], nv: &[u64]) -> u64
-    ensures { result ≡ lowest (size_conditions masks.now lv.now nv.now) }
+// The lengths of the masks and of a pair of rows are theirs.
+pub fn sizes(masks: &[u64], lv: &[u64], nv: &[u64]) -> Result<(), Refusal>
+    ensures { number_of result ≡ lowest (size_conditions masks.now lv.now nv.now) }
 {
-    if lv.len() != NUM_CPU_COLS {
-        return ROW_LENGTH;
-    }
-    if nv.len() != NUM_CPU_COLS {
-        return ROW_LENGTH;
+    if lv.len() != NUM_CPU_COLS || nv.len() != NUM_CPU_COLS {
+        return Err(Refusal::RowLength);
     }
     if masks.len() != NUM_MASKS {
-        return MASK_COUNT;
+        return Err(Refusal::MaskCount);
     }
-    0
+    Ok(())
 }
 
-// A mask is not below p, or two of the first five are equal.
-pub fn mask_contents(masks: &[u64]) -> bool
-    requires { length masks.now ≡ 25 }
-    ensures { result ≡ (mask_contents masks.now).holds }
+// The masks, as a type, of 25 words.
+#[tactic(auto, using(refusals::proofs::Laws::below_p))]
+pub fn masks(words: &[u64]) -> Result<Masks, Refusal>
+    requires { length words.now ≡ 25 }
+    ensures number { number_of result ≡ lowest (mask_contents words.now ∷ []) }
+    ensures value { IfOk result (λ masks. masks ≡ words.now) }
 {
-    if !canonical(masks) {
-        return true;
+    if canonical(words) && distinct(&words[0..5]) {
+        Ok(Masks::lend(words))
+    } else {
+        Err(Refusal::MaskContents)
     }
-    !distinct(&masks[0..5])
 }
 
-// The number with which the contents of the masks and of a pair of rows are turned back; 0 where they are not.
-pub fn contents(masks: &[u64], lv: &[u64], nv: &[u64]) -> u64
-    requires { length masks.now ≡ 25 }
-    ensures { result ≡ lowest (content_conditions masks.now lv.now nv.now) }
+// A row, as a type, of 94 words.
+#[tactic(auto, using(refusals::proofs::Laws::below_p))]
+pub fn row(words: &[u64]) -> Result<Row, Refusal>
+    requires { length words.now ≡ 94 }
+    ensures number { number_of result ≡ lowest (row_contents words.now ∷ []) }
+    ensures value { IfOk result (λ row. row ≡ words.now) }
 {
-    if mask_contents(masks) {
-        return MASK_CONTENTS;
+    if canonical(words) {
+        Ok(Row::lend(words))
+    } else {
+        Err(Refusal::RowContents)
     }
-    if !canonical(lv) {
-        return ROW_CONTENTS;
+}
+
+// The masks and a pair of rows, as types, of 25 and 94 words.
+pub fn contents<'a>(
+    masks: &'a [u64],
+    lv: &'a [u64],
+    nv: &'a [u64],
+) -> Result<(Masks<'a>, Row<'a>, Row<'a>), Refusal>
+    requires masks { length masks.now ≡ 25 }
+    requires local { length lv.now ≡ 94 }
+    requires next { length nv.now ≡ 94 }
+    ensures number { number_of result ≡ lowest (content_conditions masks.now lv.now nv.now) }
+    ensures value { IfOk result (λ accepted. accepted ≡ (masks.now, lv.now, nv.now)) }
+{
+    Ok((self::masks(masks)?, row(lv)?, row(nv)?))
+}
+
+// A weight, a lone operand or a folded value, as a type.
+#[tactic(auto, unfolding(refusals::specs::Refusal::canonical))]
+pub fn residue(word: u64) -> Result<Residue, Refusal>
+    ensures number { number_of result ≡ lowest (not_below_p (word ∷ []) ∷ []) }
+    ensures value { IfOk result (λ residue. residue ≡ word) }
+{
+    if word < P {
+        Ok(Residue::new(word))
+    } else {
+        Err(Refusal::NotBelowP)
     }
-    if !canonical(nv) {
-        return ROW_CONTENTS;
-    }
-    0
 }

@@ -1,40 +1,36 @@
-// With which number a call for the values of a pair of rows is turned back.
+// The tests that a call for the values of a pair of rows has to pass.
 #![tactic(auto)]
 
-ghost use Rattle.std.specs.Prelude.{◌≡◌};
+ghost use Rattle.std.specs.Prelude.{◌≡◌, IfOk};
+ghost use Rattle.refusals.specs.Refusal.{number_of};
 ghost use Rattle.pair_checks.specs.PairValues.{pair_values_refusal};
 
-use algebra::P;
-use refusals::{NOT_BELOW_P, VALUE_BUFFER};
-use table::NUM_VALUES;
+use refusals::Refusal;
+use table::{NUM_VALUES, Pair};
 
-// The number with which a call for the values of a pair is turned back; 0 where it is not.
-pub fn refusal(
-    masks: &[u64],
-    lv: &[u64],
-    nv: &[u64],
+// The pair as a type, or why a call for its values, with so many places for them, is turned back.
+#[tactic(auto, unfolding(crate::specs::PairValues::pair_values_refusal, refusals::specs::Refusal::canonical))]
+pub fn accept<'a>(
+    masks: &'a [u64],
+    lv: &'a [u64],
+    nv: &'a [u64],
     z_last: u64,
     lagrange_basis_first: u64,
     room: usize,
-) -> u64
-    ensures { result ≡ pair_values_refusal masks.now lv.now nv.now z_last lagrange_basis_first room }
+) -> Result<Pair<'a>, Refusal>
+    ensures number { number_of result ≡ pair_values_refusal masks.now lv.now nv.now z_last lagrange_basis_first room }
+    ensures value { IfOk result (λ pair. pair ≡ record { masks = masks.now; lv = lv.now; nv = nv.now; z_last = z_last; lagrange_basis_first = lagrange_basis_first }) }
 {
-    let lengths = checks::sizes(masks, lv, nv);
-    if lengths != 0 {
-        return lengths;
-    }
+    checks::sizes(masks, lv, nv)?;
     if room < NUM_VALUES {
-        return VALUE_BUFFER;
+        return Err(Refusal::ValueBuffer);
     }
-    let contents = checks::contents(masks, lv, nv);
-    if contents != 0 {
-        return contents;
-    }
-    if z_last >= P {
-        return NOT_BELOW_P;
-    }
-    if lagrange_basis_first >= P {
-        return NOT_BELOW_P;
-    }
-    0
+    let (masks, lv, nv) = checks::contents(masks, lv, nv)?;
+    Ok(Pair {
+        masks,
+        lv,
+        nv,
+        z_last: checks::residue(z_last)?,
+        lagrange_basis_first: checks::residue(lagrange_basis_first)?,
+    })
 }

@@ -1,3 +1,4 @@
 pub mod Laws
+pub mod FromFn
 pub mod Written
 pub mod Registers

@@ -1,6 +1,6 @@
 -- Laws of the refusal table: conditions one after the other, and what is known where none holds.
 use mathlib.Core.Path.{◌≡◌, refl, sym, ap, ◌∙◌}
-use mathlib.Core.Bool.{Bool, true, false, cond, not, ◌&&◌, ◌||◌, and_assoc}
+use mathlib.Core.Bool.{Bool, true, false, cond, not, ◌&&◌, ◌||◌, and_assoc, and-true}
 use mathlib.Core.List.{List, [], ◌∷◌, ◌++◌}
 use Prim.Native.Nat.{ℕ, zero, suc, ◌+◌, ◌-◌, ◌<◌, ◌≤◌}
 use native.Mathlib.Numerals.{add-one}
@@ -9,9 +9,12 @@ use lib.ListN.{length, get_or, take, drop, drop_of_length-le, take-append-drop}
 use lib.Seq.{drop-cons}
 use lib.Dec.{T, eqb, ltb, ltb→lt, lit<}
 use borrow.Author.Tests.{eqb-true, eqb-false, eq-eqb, ne_eqb, not-false, ltb-true}
+use Rattle.std.specs.List.{fold, list_any}
 use Rattle.algebra.specs.Prime.{p}
 use Rattle.algebra.proofs.Slices.{to_end}
-use Rattle.refusals.specs.Refusal.{Condition, lowest, unless, canonical, member, distinct}
+use Rattle.refusals.specs.Refusal.{Condition, lowest, unless, canonical, member, distinct, number, number_of, refusal, refused}
+use Rattle.refusals.specs.declared.Refusal.{Refusal}
+use Rattle.refusals.specs.declared.Refusal.TheVariants.{RowLength, MaskCount, ValueBuffer, AlphaCount, MaskContents, RowContents, NotBelowP, FlagsNotPlain}
 
 -- none of the conditions holds
 abbrev pub Clear : List Condition → Type 0
@@ -110,6 +113,9 @@ canonical-below [] e i = lit< tt
 canonical-below (x ∷ xs) e zero = ltb-true _ _ (both_true (ltb x p) (canonical xs) e).0
 canonical-below (x ∷ xs) e (suc i) = canonical-below xs (both_true (ltb x p) (canonical xs) e).1 i
 
+-- for an attribute, which names no lemma with a dash
+pub ruleset below_p = (canonical-below)
+
 eqb_comm : (a b : ℕ) → eqb a b ≡ eqb b a
 eqb_comm a b = go (eqb a b) refl
   where
@@ -149,3 +155,42 @@ module _ (a : List ℕ) (i : ℕ) where
       → distinct (drop i a) ≡ (not b && distinct (drop (i + 1) a))
   distinct_turn h b e =
       distinct-at h ∙ ap (λ (t : Bool). not t && distinct (drop (i + 1) a)) (ap (member (get_or a i 0)) (sym (to_end (i + 1) a)) ∙ e)
+
+-- the numbers of the table are those of its lines
+pub refusal-number : (r : Refusal) → refusal (number r) ≡ r
+refusal-number RowLength = refl
+refusal-number MaskCount = refl
+refusal-number ValueBuffer = refl
+refusal-number AlphaCount = refl
+refusal-number MaskContents = refl
+refusal-number RowContents = refl
+refusal-number NotBelowP = refl
+refusal-number FlagsNotPlain = refl
+
+pub number_positive : (r : Refusal) → 0 < number r
+number_positive RowLength = omega arith
+number_positive MaskCount = omega arith
+number_positive ValueBuffer = omega arith
+number_positive AlphaCount = omega arith
+number_positive MaskContents = omega arith
+number_positive RowContents = omega arith
+number_positive NotBelowP = omega arith
+number_positive FlagsNotPlain = omega arith
+
+-- whether every number is canonical, and whether x is among the numbers, in the words of the library
+pub canonical_fold : (b : Bool) (l : List ℕ) → fold (λ b x. b && ltb x p) b l ≡ (b && canonical l)
+unfolding canonical
+canonical_fold b [] = sym (and-true b)
+canonical_fold b (x ∷ l) = canonical_fold (b && ltb x p) l ∙ and_assoc b (ltb x p) (canonical l)
+
+pub member_any : (x : ℕ) (l : List ℕ) → list_any (λ y. eqb y x) l ≡ member x l
+member_any x [] = refl
+member_any x (y ∷ l) = ap (λ (b : Bool). b || list_any (λ y. eqb y x) l) (eqb_comm y x) ∙ ap (λ (b : Bool). eqb x y || b) (member_any x l)
+
+-- no two numbers are equal, by the first of them and the rest, `[first, rest @ ..]`
+pub distinct_first : (l : List ℕ) → 0 < length l
+    → (distinct l ≡ distinct l) × (distinct l ≡ (not (list_any (λ y. eqb y (get_or l 0 0)) (take (length l - 1) (drop 1 l))) && distinct (take (length l - 1) (drop 1 l))))
+unfolding distinct
+distinct_first [] h = absurd (omega arith)
+distinct_first (x ∷ l) h =
+    rw (to_end 1 (x ∷ l)) (refl, ap (λ (b : Bool). not b && distinct l) (sym (member_any x l)))

@@ -1,6 +1,8 @@
 -- "Where a call is turned back" (document 01): one definition for each line of the table.
-use Rattle.std.specs.Prelude.{Bool, true, false, cond, not, ◌&&◌, ◌||◌, List, [], ◌∷◌, ℕ, zero, suc, ◌/◌, ◌%◌, length, take, ℤ, nat_abs, eqb, ltb}
+use Rattle.std.specs.Prelude.{Bool, true, false, cond, not, ◌&&◌, ◌||◌, List, [], ◌∷◌, ℕ, zero, suc, ◌-◌, ◌/◌, ◌%◌, length, get_or, take, ℤ, nat_abs, eqb, ltb, Result, Ok, Err}
 use Rattle.algebra.specs.Prime.{p}
+use Rattle.refusals.specs.declared.Refusal.{Refusal}
+use Rattle.refusals.specs.declared.Refusal.TheVariants.{RowLength, MaskCount, ValueBuffer, AlphaCount, MaskContents, RowContents, NotBelowP, FlagsNotPlain}
 
 -- a number, and whether its condition holds
 pub record Condition : Type 0 where
@@ -84,3 +86,31 @@ sizes masks lv nv = row_length lv ∷ row_length nv ∷ mask_count masks ∷ []
 
 abbrev pub contents : List ℕ → List ℕ → List ℕ → List Condition
 contents masks lv nv = mask_contents masks ∷ row_contents lv ∷ row_contents nv ∷ []
+
+-- the number of a line, which a call that is turned back by it answers
+abbrev pub number : Refusal → ℕ
+number RowLength = 1
+number MaskCount = 2
+number ValueBuffer = 3
+number AlphaCount = 4
+number MaskContents = 5
+number RowContents = 6
+number NotBelowP = 7
+number FlagsNotPlain = 8
+
+-- the lines in the order of their numbers, which begin with 1, and the line of a number
+abbrev pub lines : List Refusal
+lines =
+    RowLength ∷ MaskCount ∷ ValueBuffer ∷ AlphaCount ∷ MaskContents ∷ RowContents ∷ NotBelowP ∷ FlagsNotPlain ∷ []
+
+abbrev pub refusal : ℕ → Refusal
+refusal n = get_or lines (n - 1) FlagsNotPlain
+
+-- the number of what a call answers: 0 where it is not turned back
+abbrev pub number_of : {A : Type 0} → Result A Refusal → ℕ
+number_of (Ok _) = 0
+number_of (Err r) = number r
+
+-- the answer of a call that is turned back with a number
+abbrev pub refused : {A : Type 0} → ℕ → Result A Refusal
+refused n = Err (refusal n)

@@ -1,18 +1,45 @@
-// The numbers with which a call is turned back, as specs/Refusal.antt has them.
+// Why a call is turned back: the lines of the refusal table, each with its number.
 #![tactic(auto)]
 
-pub const ROW_LENGTH: u64 = 1;
+ghost use Rattle.std.specs.Prelude.{◌≡◌};
+ghost use Rattle.refusals.specs.Refusal.{number, number_of};
 
-pub const MASK_COUNT: u64 = 2;
+#[derive(Clone, Copy, PartialEq, Eq, Debug)]
+pub enum Refusal {
+    RowLength = 1,
+    MaskCount = 2,
+    ValueBuffer = 3,
+    AlphaCount = 4,
+    MaskContents = 5,
+    RowContents = 6,
+    NotBelowP = 7,
+    FlagsNotPlain = 8,
+}
 
-pub const VALUE_BUFFER: u64 = 3;
+impl Refusal {
+    pub fn number(self) -> u64
+        ensures { result ≡ number self }
+    {
+        self as u64
+    }
+}
 
-pub const ALPHA_COUNT: u64 = 4;
+impl From<Refusal> for u64 {
+    ghost use Rattle.refusals.specs.Refusal.{number};
 
-pub const MASK_CONTENTS: u64 = 5;
+    ghost from_gives = { λ refusal n. n ≡ number refusal };
 
-pub const ROW_CONTENTS: u64 = 6;
+    fn from(refusal: Refusal) -> u64 {
+        refusal.number()
+    }
+}
 
-pub const NOT_BELOW_P: u64 = 7;
-
-pub const FLAGS_NOT_PLAIN: u64 = 8;
+// What the C interface answers: the number with which a call is turned back; 0 where it is not.
+pub fn number_of(answer: Result<(), Refusal>) -> u64
+    ensures { result ≡ number_of answer }
+{
+    match answer {
+        Ok(()) => 0,
+        Err(refusal) => refusal.number(),
+    }
+}

@@ -5,7 +5,8 @@ use crate::tokens::tokens;
 /// A `pub fn`.
 #[derive(Clone, Debug, PartialEq, Eq)]
 pub struct Function {
-    /// Its name in the crate: behind its module's, and a method's behind its type's.
+    /// Its name in the crate: behind its module's, and a method's behind its type's or its trait's; an
+    /// operation that a type has by a trait of std is `<Type as Trait>::name`.
     pub name: String,
     /// Whether it has a `requires`.
     pub asks: bool,
@@ -33,6 +34,9 @@ pub fn declared(text: &str) -> Result<Declared, String> {
     Ok(reader.declared)
 }
 
+/// How the prefix of a function ends that a type has by a trait, or that a trait declares.
+const OPERATION: &str = ">::";
+
 struct Reader<'a> {
     tokens: Vec<&'a str>,
     at: usize,
@@ -53,12 +57,15 @@ impl<'a> Reader<'a> {
                 "#" => self.group()?,
                 "pub" => is_public = true,
                 "extern" if self.peek() == Some("\"C\"") => self.at += 1,
-                "ghost" if self.peek() == Some("use") => {}
-                "use" | "const" => return self.up_to(";"),
+                // A ghost import, or a member of a trait or of what stands for it at a type.
+                "ghost" => return self.up_to(";"),
+                "const" if self.peek() == Some("fn") => {}
+                "use" | "const" | "type" => return self.up_to(";"),
                 "struct" | "enum" => return self.up_to("{"),
                 "mod" => return self.module(),
                 "impl" => return self.methods(),
-                "fn" => return self.function(prefix, is_public),
+                "trait" => return self.declared_methods(is_public),
+                "fn" => return self.function(prefix, is_public || prefix.ends_with(OPERATION)),
                 other => {
                     let before = &self.tokens[self.at.saturating_sub(8)..self.at];
                     return Err(format!("{other:?} begins no known item: {before:?}"));
@@ -76,26 +83,64 @@ impl<'a> Reader<'a> {
         }
     }
 
-    /// The items of an impl block: `impl<'a> Type<'a> { .. }`.
+    /// The items of an impl block: `impl<'a> Type<'a> { .. }` or `impl<'a> Trait for Type<'a> { .. }`.
     fn methods(&mut self) -> Result<(), String> {
+        let first = self.type_name()?;
+        let prefix = match self.head()? {
+            true => {
+                let name = self.type_name()?;
+                self.head()?;
+                format!("<{name} as {first}{OPERATION}")
+            }
+            false => format!("{first}::"),
+        };
+        self.items(&prefix)
+    }
+
+    /// The functions that a trait declares.
+    fn declared_methods(&mut self, is_public: bool) -> Result<(), String> {
+        let name = self.next()?;
+        self.head()?;
+        match is_public {
+            true => self.items(&format!("<{name}{OPERATION}")),
+            false => {
+                self.at -= 1;
+                self.group()
+            }
+        }
+    }
+
+    /// A type's name, or a trait's: the last word of its path.
+    fn type_name(&mut self) -> Result<&'a str, String> {
         let mut depth = 0;
-        let name = loop {
+        loop {
             match self.next()? {
                 "<" => depth += 1,
                 ">" => depth -= 1,
-                name if depth == 0 => break name,
-                _ => {}
-            }
-        };
-        loop {
-            match self.next()? {
-                "{" => break,
-                "for" => return Err(format!("a trait's methods: impl {name} for")),
+                name if depth == 0 && name != ":" && self.peek() != Some(":") => return Ok(name),
                 _ => {}
             }
         }
+    }
+
+    /// Passes over the rest of a block's head; whether a `for` ends it and not the block's `{`.
+    fn head(&mut self) -> Result<bool, String> {
+        let mut depth = 0;
+        loop {
+            match self.next()? {
+                "<" => depth += 1,
+                ">" => depth -= 1,
+                "for" if depth == 0 => return Ok(true),
+                "{" if depth == 0 => return Ok(false),
+                _ => {}
+            }
+        }
+    }
+
+    /// The items of a block up to its end.
+    fn items(&mut self, prefix: &str) -> Result<(), String> {
         while self.peek() != Some("}") {
-            self.item(&format!("{name}::"))?;
+            self.item(prefix)?;
         }
         self.at += 1;
         Ok(())
@@ -109,6 +154,7 @@ impl<'a> Reader<'a> {
             match self.peek() {
                 Some("(" | "[") => self.group()?,
                 Some("{") => break self.group()?,
+                Some(";") => break self.at += 1,
                 Some(clause @ ("requires" | "ensures")) => {
                     asks |= clause == "requires";
                     self.up_to("{")?;

@@ -106,16 +106,34 @@ fn a_file_is_read() {
 #[test]
 fn an_item_of_an_unknown_sort_is_an_error() {
     for text in [
-        "pub trait T { fn f(); }",
-        "pub type T = u64;",
+        "pub static N: u64 = 1;",
         "pub mod m { pub fn f() {} }",
-        "impl T for S { fn f() {} }",
+        "impl T for S { static N: u64 = 1; }",
         "pub unsafe fn f() {}",
         "pub fn f(",
         "extern \"C\" { fn f(); }",
     ] {
         assert!(declared(text).is_err(), "{text}");
     }
+}
+
+#[test]
+fn the_functions_of_a_trait_and_of_what_a_type_has_by_it_are_read() {
+    let text = "pub trait T { ghost m: { Self }; fn f(&self) requires { A }; fn g() { h(); } }
+        trait Hidden { fn f(); }
+        pub type S = Pair<'static, { N }>;
+        impl<'a, const N: usize> T for Pair<'a, N> { type Output = u64; fn f(&self) { } }";
+    let functions = declared(text).expect("a file").functions;
+    let names: Vec<_> = functions
+        .iter()
+        .map(|f| (f.name.as_str(), f.asks))
+        .collect();
+    let expected = [
+        ("<T>::f", true),
+        ("<T>::g", false),
+        ("<Pair as T>::f", false),
+    ];
+    assert_eq!(names, expected);
 }
 
 #[test]

@@ -31,6 +31,9 @@ fn every_line_that_begins_a_public_function_is_read() {
             line.starts_with("pub fn ") || line.starts_with("pub extern \"C\" fn ")
         };
         let lines: usize = texts.map(|text| text.lines().filter(begins).count()).sum();
-        assert_eq!(library.functions.len(), lines, "crate {}", library.name);
+        let functions = library.functions.iter();
+        // What a type has by a trait does not begin with `pub`.
+        let own = functions.filter(|f| !f.name.contains(">::")).count();
+        assert_eq!(own, lines, "crate {}", library.name);
     }
 }
