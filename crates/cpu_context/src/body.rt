@@ -7,6 +7,7 @@ ghost use Rattle.table.specs.Cells.{cells};
 ghost use Rattle.table.specs.Entry.{values};
 ghost use Rattle.table.specs.CpuStark.{body_tx_idx, body_ctx_regs, body_filter_imm};
 
+use parts::context::ctx_differences;
 use residue::Residue;
 use table::Row;
 use table::columns::*;
@@ -25,6 +26,17 @@ pub fn body_tx_idx(lv: &Row, nv: &Row, z_last: Residue) -> [Residue; 2]
         not_end * tx_idx_diff * z_last,
         entry_sc_end * (tx_idx_diff - one) * z_last,
     ]
+}
+
+// ctx reg not change on normal opcodes
+pub fn body_ctx_regs(lv: &Row, nv: &Row, z_last: Residue) -> [Residue; 8]
+    ensures { result ≡ values residues (cells [] lv.now nv.now z_last 0) body_ctx_regs }
+{
+    let one = Residue::ONE;
+    let nv_not_padding = one - nv.at(COL_IS_PADDING);
+    let not_end = nv_not_padding * (one - lv.at(COL_S_END));
+    let normal_opcode = not_end * (one - lv.at(COL_S_CALL_SC));
+    ctx_differences(normal_opcode * z_last, lv, nv)
 }
 
 // filter imm to prog
