@@ -2,5 +2,3 @@ pub mod Laws
 pub mod FromFn
 pub mod Written
 pub mod Registers
-pub mod Pairs
-pub mod Called
