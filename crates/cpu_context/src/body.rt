@@ -1,5 +1,5 @@
 // The constraints that CpuStark::eval_packed_generic yields itself (C).
-#![tactic(auto, unfolding(algebra::specs::Expr::eval, table::specs::Entry::values, table::specs::CpuStark::body_tx_idx, table::specs::CpuStark::body_filter_imm, residue::specs::Residues::sub_p))]
+#![tactic(auto, unfolding(algebra::specs::Expr::eval, table::specs::Entry::values, table::specs::Entry::each, parts::specs::Ctx::ctx_differences, table::specs::CpuStark::body_tx_idx, table::specs::CpuStark::body_ctx_regs, table::specs::CpuStark::body_filter_imm, residue::specs::Residues::sub_p), using(parts::proofs::Registers::registers))]
 
 ghost use Rattle.std.specs.Prelude.{◌≡◌, []};
 ghost use Rattle.residue.specs.Residues.{residues};

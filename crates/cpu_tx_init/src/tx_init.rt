@@ -1,6 +1,6 @@
 // CpuStark::constraint_tx_init (B): the first line, and the first line of each transaction, have their context
 // at zero.
-#![tactic(auto, unfolding(algebra::specs::Expr::eval, table::specs::Entry::values, table::specs::CpuStark::tx_init_first_line_head, table::specs::CpuStark::tx_init_each_tx_head, residue::specs::Residues::sub_p))]
+#![tactic(auto, unfolding(algebra::specs::Expr::eval, table::specs::Entry::values, table::specs::Entry::each, parts::specs::Parts::up_to, table::specs::CpuStark::tx_init_first_line_head, table::specs::CpuStark::tx_init_first_line_regs, table::specs::CpuStark::tx_init_each_tx_head, table::specs::CpuStark::tx_init_each_tx_regs, residue::specs::Residues::sub_p), using(parts::proofs::Registers::registers))]
 
 ghost use Rattle.std.specs.Prelude.{◌≡◌, []};
 ghost use Rattle.residue.specs.Residues.{residues};
@@ -8,6 +8,7 @@ ghost use Rattle.table.specs.Cells.{cells};
 ghost use Rattle.table.specs.Entry.{values};
 ghost use Rattle.table.specs.CpuStark.{tx_init_first_line_head, tx_init_first_line_regs, tx_init_each_tx_head, tx_init_each_tx_regs};
 
+use parts::scaled;
 use residue::Residue;
 use table::Row;
 use table::columns::*;
@@ -28,7 +29,7 @@ pub fn tx_init_first_line_head(lv: &Row, lagrange_basis_first: Residue) -> [Resi
 pub fn tx_init_first_line_regs(lv: &Row, lagrange_basis_first: Residue) -> [Residue; REGISTER_NUM]
     ensures { result ≡ values residues (cells [] lv.now [] 0 lagrange_basis_first) tx_init_first_line_regs }
 {
-    std::array::from_fn(|i| lv.at(COL_REGS_START + i) * lagrange_basis_first)
+    scaled(lagrange_basis_first, lv, COL_REGS_START)
 }
 
 pub fn tx_init_each_tx_head(lv: &Row, nv: &Row, z_last: Residue) -> [Residue; 6]
@@ -53,5 +54,5 @@ pub fn tx_init_each_tx_regs(lv: &Row, nv: &Row, z_last: Residue) -> [Residue; RE
     ensures { result ≡ values residues (cells [] lv.now nv.now z_last 0) tx_init_each_tx_regs }
 {
     let not_same_tx = (Residue::ONE - lv.at(COL_IS_NEXT_LINE_SAME_TX)) * z_last;
-    std::array::from_fn(|i| not_same_tx * nv.at(COL_REGS_START + i))
+    scaled(not_same_tx, nv, COL_REGS_START)
 }
