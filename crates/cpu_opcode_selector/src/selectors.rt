@@ -1,5 +1,5 @@
 // constraint_opcode_selector: the 19 selectors of the opcode.
-#![tactic(auto, unfolding(algebra::specs::Expr::eval, table::specs::Entry::values, table::specs::CpuStark::opcode_products, residue::specs::Residues::sub_p))]
+#![tactic(auto, unfolding(algebra::specs::Expr::eval, table::specs::Entry::values, table::specs::Entry::plus_all, parts::specs::Parts::plus_up_to, table::specs::CpuStark::opcode_products, table::specs::CpuStark::sum_s_op, table::specs::CpuStark::opcode_sums, residue::specs::Residues::sub_p), using(crate::proofs::Laws::opcode_parts))]
 
 ghost use Rattle.std.specs.Prelude.{◌≡◌, []};
 ghost use Rattle.algebra.specs.Expr.{eval};
@@ -9,6 +9,7 @@ ghost use Rattle.table.specs.Entry.{values};
 ghost use Rattle.table.specs.CpuStark.{opcode_products, opcode_selectors_binary, cal_opcode, opcode_sums};
 
 use residue::Residue;
+use row_sums::{plus_products, sum};
 use table::columns::*;
 use table::masks::*;
 use table::{Masks, Row};
@@ -37,4 +38,27 @@ pub fn opcode_selectors_binary(lv: &Row) -> [Residue; NUM_OP_SELECTOR]
         let selector = lv.at(COL_S_SIMPLE_ARITHMATIC_OP + i);
         selector.times_one_minus(selector)
     })
+}
+
+// The selectors times their opcodes; the two selectors of several opcodes count 0.
+pub fn cal_opcode(lv: &Row, masks: &Masks) -> Residue
+    ensures { result ≡ eval residues (cells masks.now lv.now [] 0 0) cal_opcode }
+{
+    let to_rc = plus_products(Residue::ZERO, lv, COL_S_MOV, masks, MOV, NOT - MOV);
+    plus_products(to_rc, lv, COL_S_NOT, masks, NOT, NUM_MASKS - NOT)
+}
+
+// The selectors' sum, and the opcode that they choose.
+pub fn opcode_sums(lv: &Row, masks: &Masks) -> [Residue; 2]
+    ensures { result ≡ values residues (cells masks.now lv.now [] 0 0) opcode_sums }
+{
+    let one = Residue::ONE;
+    let sum_s_op = sum(lv, COL_S_SIMPLE_ARITHMATIC_OP, NUM_OP_SELECTOR);
+    let one_opcode = one - lv.at(COL_S_BITWISE) - lv.at(COL_S_SIMPLE_ARITHMATIC_OP);
+    [
+        // Only one opcode selector enabled.
+        one - sum_s_op,
+        // The opcode is the one of its selector.
+        (lv.at(COL_OPCODE) - cal_opcode(lv, masks)) * one_opcode,
+    ]
 }
