@@ -5,13 +5,14 @@ ghost use Rattle.parts.specs.Parts.{write};
 ghost use Rattle.table.specs.Rows.{Rows, Masks};
 ghost use Rattle.table.specs.Table.{pair_values};
 
+use table::{Pair};
 use stage_context::eval_context;
 use stage_flow::eval_flow;
 use stage_instruction::eval_instruction;
 use stage_opcodes::eval_opcodes;
 
 // The 226 values of a pair of rows, written to the first places of `out`.
-pub fn eval_packed_generic(
+fn eval_old(
     lv: &[u64],
     nv: &[u64],
     masks: &[u64],
@@ -30,4 +31,15 @@ pub fn eval_packed_generic(
     eval_instruction(lv, nv, masks, out);
     eval_flow(lv, nv, z_last, out);
     eval_opcodes(lv, nv, masks, z_last, out);
+}
+
+// The 226 values of a pair of rows.
+pub fn eval_packed_generic(pair: &Pair, out: &mut [u64])
+    requires { length out.old ≡ 226 }
+    ensures { out.new ≡ pair_values pair.now.masks pair.now.lv pair.now.nv pair.now.z_last pair.now.lagrange_basis_first }
+{
+    let lv = pair.lv.words();
+    let nv = pair.nv.words();
+    let masks = pair.masks.words();
+    eval_old(lv, nv, masks, pair.z_last.value(), pair.lagrange_basis_first.value(), out);
 }

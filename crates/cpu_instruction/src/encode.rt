@@ -1,17 +1,17 @@
 // constraint_instruction_encode: the instruction word holds op1_imm, the selectors and the opcode.
-ghost use Rattle.std.specs.Prelude.{◌≡◌, [], ◌<◌};
-ghost use Rattle.algebra.specs.Prime.{p};
+#![tactic(auto, unfolding(algebra::specs::Expr::eval, table::specs::Entry::values, table::specs::CpuStark::constraint_instruction_encode, residue::specs::Residues::sub_p))]
+
+ghost use Rattle.std.specs.Prelude.{◌≡◌, []};
 ghost use Rattle.algebra.specs.Expr.{eval};
 ghost use Rattle.residue.specs.Residues.{residues};
-ghost use Rattle.table.specs.Rows.{Row};
 ghost use Rattle.table.specs.Cells.{cells};
 ghost use Rattle.table.specs.Entry.{values};
 ghost use Rattle.table.specs.CpuStark.{instruction, constraint_instruction_encode};
 
-use residue::below::{add, sub};
-use residue::mul;
+use residue::Residue;
 use row_sums::{from_digits, pow2};
-use sums::{plus_product, product, reduced};
+use sums::Sum;
+use table::Row;
 use table::columns::*;
 
 // Its constants are the places of the instruction word.
@@ -32,47 +32,40 @@ impl CpuStark {
 const LAST: u32 = REGISTER_NUM as u32 - 1;
 
 // What the columns of the operands and of the opcode encode.
-pub fn instruction(lv: &[u64]) -> u64
-    requires { Row lv.now }
-    ensures value { result ≡ eval residues (cells [] lv.now [] 0 0) instruction }
-    ensures canonical { result < p }
+#[tactic(auto, unfolding(algebra::specs::Expr::eval, table::specs::CpuStark::instruction), using(row_sums::proofs::Laws::plus_shifted_is))]
+pub fn instruction(lv: &Row) -> Residue
+    ensures { result ≡ eval residues (cells [] lv.now [] 0 0) instruction }
 {
-    let s_op0s = &lv[COL_S_OP0_START..COL_S_OP0_END];
-    let s_op1s = &lv[COL_S_OP1_START..COL_S_OP1_END];
-    let s_dsts = &lv[COL_S_DST_START..COL_S_DST_END];
-    let op1_imm = product(lv[COL_OP1_IMM], pow2(CpuStark::OP1_IMM_SHIFT));
     // From the high bits down, the order of each group is r9, r8, .. r0.
-    let with_op0 = plus_product(
-        op1_imm,
-        from_digits(s_op0s),
+    let op1_imm = Sum::product(lv.at(COL_OP1_IMM), pow2(CpuStark::OP1_IMM_SHIFT));
+    let with_op0 = op1_imm.plus(
+        from_digits(lv, COL_S_OP0_START),
         pow2(CpuStark::OP0_SHIFT_START - LAST),
     );
-    let with_op1 = plus_product(
-        with_op0,
-        from_digits(s_op1s),
+    let with_op1 = with_op0.plus(
+        from_digits(lv, COL_S_OP1_START),
         pow2(CpuStark::OP1_SHIFT_START - LAST),
     );
-    let with_dst = plus_product(
-        with_op1,
-        from_digits(s_dsts),
+    let with_dst = with_op1.plus(
+        from_digits(lv, COL_S_DST_START),
         pow2(CpuStark::DST_SHIFT_START - LAST),
     );
-    add(reduced(with_dst), lv[COL_OPCODE])
+    with_dst.reduced() + lv.at(COL_OPCODE)
 }
 
 // The instruction word is what the columns encode, and an immediate operand is the immediate value.
-pub fn constraint_instruction_encode(lv: &[u64]) -> [u64; 3]
-    requires { Row lv.now }
+pub fn constraint_instruction_encode(lv: &Row) -> [Residue; 3]
     ensures { result ≡ values residues (cells [] lv.now [] 0 0) constraint_instruction_encode }
 {
-    let op1_imm = lv[COL_OP1_IMM];
-    let main_line = sub(1, lv[COL_IS_EXT_LINE]);
+    let one = Residue::ONE;
+    let op1_imm = lv.at(COL_OP1_IMM);
+    let main_line = one - lv.at(COL_IS_EXT_LINE);
     [
         // op_imm should be binary.
-        mul(op1_imm, sub(1, op1_imm)),
+        op1_imm * (one - op1_imm),
         // Constrain instruction encoding.
-        mul(main_line, sub(lv[COL_INST], instruction(lv))),
+        main_line * (lv.at(COL_INST) - instruction(lv)),
         // When oprand exists, op1 is imm.
-        mul(main_line, mul(op1_imm, sub(lv[COL_OP1], lv[COL_IMM_VAL]))),
+        main_line * (op1_imm * (lv.at(COL_OP1) - lv.at(COL_IMM_VAL))),
     ]
 }

@@ -2,67 +2,69 @@
 ghost use Rattle.std.specs.Prelude.{◌≡◌, []};
 ghost use Rattle.residue.specs.Residues.{residues};
 ghost use Rattle.table.specs.Cells.{cells};
-ghost use Rattle.table.specs.Rows.{Row, Masks};
 ghost use Rattle.table.specs.Entry.{values};
 ghost use Rattle.table.specs.SimpleArithmaticOp.{simple_arithmatic_op};
 ghost use Rattle.cpu_simple_arithmatic_op.specs.Products.{all_but_one};
 
-use residue::below::{add, sub};
-use residue::mul;
+use residue::Residue;
 use table::columns::*;
 use table::masks::*;
+use table::{Masks, Row};
 
 // The selector times all but one of OPCODE's differences from five masks, the first left out, then the second,
 // and so on: each is not zero only for the opcode that is left out. Products of two of them are shared.
-pub fn is_ops(selector: u64, a: u64, b: u64, c: u64, d: u64, e: u64) -> [u64; 5]
+#[tactic(auto, using(crate::proofs::Products::last_two, crate::proofs::Products::last_three), unfolding(crate::specs::Products::all_but_one))]
+fn is_ops(
+    selector: Residue,
+    a: Residue,
+    b: Residue,
+    c: Residue,
+    d: Residue,
+    e: Residue,
+) -> [Residue; 5]
     ensures { result ≡ all_but_one selector a b c d e }
 {
-    let de = mul(d, e);
-    let with_cde = mul(selector, mul(c, de));
-    let with_ab = mul(mul(selector, a), b);
-    let with_abc = mul(with_ab, c);
+    let de = d * e;
+    let with_cde = selector * (c * de);
+    let with_ab = selector * a * b;
+    let with_abc = with_ab * c;
     [
-        mul(with_cde, b),
-        mul(with_cde, a),
-        mul(with_ab, de),
-        mul(with_abc, e),
-        mul(with_abc, d),
+        with_cde * b,
+        with_cde * a,
+        with_ab * de,
+        with_abc * e,
+        with_abc * d,
     ]
 }
 
 // 160 to 163
-pub fn eval_packed_generic(lv: &[u64], masks: &[u64]) -> [u64; 4]
-    requires row { Row lv.now }
-    requires masks { Masks masks.now }
+#[tactic(auto, unfolding(algebra::specs::Expr::eval, residue::specs::Residues::sub_p, table::specs::Entry::values, table::specs::SimpleArithmaticOp::simple_arithmatic_op, table::specs::SimpleArithmaticOp::is_op, crate::specs::Products::all_but_one))]
+pub fn eval_packed_generic(lv: &Row, masks: &Masks) -> [Residue; 4]
     ensures { result ≡ values residues (cells masks.now lv.now [] 0 0) simple_arithmatic_op }
 {
-    let selector = lv[COL_S_SIMPLE_ARITHMATIC_OP];
-    let opcode = lv[COL_OPCODE];
-    let not_add = sub(opcode, masks[ADD]);
-    let not_mul = sub(opcode, masks[MUL]);
-    let not_eq = sub(opcode, masks[EQ]);
-    let not_neq = sub(opcode, masks[NEQ]);
-    let not_assert = sub(opcode, masks[ASSERT]);
-    let is_ops = is_ops(selector, not_add, not_mul, not_eq, not_neq, not_assert);
-    let op0 = lv[COL_OP0];
-    let op1 = lv[COL_OP1];
-    let res = lv[COL_DST];
+    let one = Residue::ONE;
+    let opcode = lv.at(COL_OPCODE);
+    let [is_add, is_mul, is_eq, is_neq, is_assert] = is_ops(
+        lv.at(COL_S_SIMPLE_ARITHMATIC_OP),
+        opcode - masks.at(ADD),
+        opcode - masks.at(MUL),
+        opcode - masks.at(EQ),
+        opcode - masks.at(NEQ),
+        opcode - masks.at(ASSERT),
+    );
+    let op0 = lv.at(COL_OP0);
+    let op1 = lv.at(COL_OP1);
+    let res = lv.at(COL_DST);
     // eq and neq
-    let op_diff = sub(op0, op1);
-    let not_diff_aux = sub(1, mul(op_diff, lv[COL_AUX0]));
-    let not_res = sub(1, res);
-    let eq_cs = mul(
-        is_ops[2],
-        add(mul(res, op_diff), mul(not_res, not_diff_aux)),
-    );
-    let neq_cs = mul(
-        is_ops[3],
-        add(mul(not_res, op_diff), mul(res, not_diff_aux)),
-    );
+    let op_diff = op0 - op1;
+    let not_diff_aux = one - op_diff * lv.at(COL_AUX0);
+    let not_res = one - res;
+    let eq_cs = is_eq * (res * op_diff + not_res * not_diff_aux);
+    let neq_cs = is_neq * (not_res * op_diff + res * not_diff_aux);
     [
-        mul(is_ops[0], sub(res, add(op0, op1))),
-        mul(is_ops[1], sub(res, mul(op0, op1))),
-        add(eq_cs, neq_cs),
-        mul(is_ops[4], sub(1, op1)),
+        is_add * (res - (op0 + op1)),
+        is_mul * (res - op0 * op1),
+        eq_cs + neq_cs,
+        is_assert * (one - op1),
     ]
 }

@@ -2,4 +2,5 @@
 // columns (A).
 #![tactic(auto)]
 
+pub mod counted_row;
 pub mod wrapper;

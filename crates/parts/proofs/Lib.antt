@@ -1,5 +1,4 @@
 pub mod Laws
+pub mod FromFn
 pub mod Written
-pub mod Called
-pub mod Pairs
 pub mod Registers

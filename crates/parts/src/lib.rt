@@ -1,33 +1,32 @@
-// Loops over parts of a row, and writing values to a part of the buffer.
+// Loops over the registers of a row, and writing residues to a buffer.
 #![tactic(auto)]
 
 ghost use Rattle.std.specs.Prelude.{◌≡◌, ◌+◌, ◌≤◌, length, get_or};
 ghost use Rattle.residue.specs.Residues.{mul_p};
-ghost use Rattle.parts.specs.Parts.{up_to, write};
+ghost use Rattle.table.specs.Columns.{NUM-CPU-COLS};
+ghost use Rattle.parts.specs.Parts.{up_to};
 
-use residue::mul;
+use residue::Residue;
+use table::Row;
 
 pub mod context;
 
-// Writes the values from the place `at` on; the rest of `out` is kept.
-pub fn put(out: &mut [u64], at: usize, values: &[u64])
-    requires { at + length values.now ≤ length out.old }
-    ensures { out.new ≡ write out.old at values.now }
+// Writes the numbers of the residues.
+pub fn put(out: &mut [u64], values: &[Residue])
+    requires { length values.now ≡ length out.old }
+    ensures { out.new ≡ values.now }
 {
-    let n = values.len();
-    for i in 0..n {
-        out[at + i] = values[i];
+    // Kept: nothing is known after a loop over `out.iter_mut().zip(values)`, so the index is counted.
+    for (i, value) in values.iter().enumerate() {
+        out[i] = value.value();
     }
 }
 
-// The ten registers, each times f.
-pub fn scaled(f: u64, regs: &[u64]) -> [u64; 10]
-    requires { length regs.now ≡ 10 }
-    ensures { result ≡ up_to 10 (λ i. mul_p f (get_or regs.now i 0)) }
+// The ten columns of a row from the column `from` on, each times f.
+#[tactic(auto, unfolding(crate::specs::Parts::up_to))]
+pub fn scaled(f: Residue, row: &Row, from: usize) -> [Residue; 10]
+    requires { from + 10 ≤ NUM-CPU-COLS }
+    ensures { result ≡ up_to 10 (λ i. mul_p f (get_or row.now (from + i) 0)) }
 {
-    let mut out = [0u64; 10];
-    for i in 0..10 {
-        out[i] = mul(f, regs[i]);
-    }
-    out
+    std::array::from_fn(|i| f * row.at(from + i))
 }

@@ -1,7 +1,5 @@
 pub mod Remainders
 pub mod Laws
-pub mod Digits
 pub mod Folding
 pub mod Field
 pub mod Called
-pub mod Carry

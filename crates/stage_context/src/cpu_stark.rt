@@ -1,67 +1,68 @@
 // CpuStark: the groups of this stage that are made of several pieces.
-ghost use Rattle.std.specs.Prelude.{◌≡◌, [], ◌∷◌, ◌+◌, ◌<◌, ◌≤◌, length};
-ghost use Rattle.algebra.specs.Prime.{p};
+#![tactic(auto, unfolding(algebra::specs::Expr::eval, table::specs::Entry::values, table::specs::Entry::each, table::specs::CpuStark::constraint_tx_init, table::specs::CpuStark::tx_init_first_line_head, table::specs::CpuStark::tx_init_first_line_regs, table::specs::CpuStark::tx_init_each_tx_head, table::specs::CpuStark::tx_init_each_tx_regs, table::specs::CpuStark::eval_packed_generic_body, table::specs::CpuStark::body_tx_idx, table::specs::CpuStark::body_ctx_regs, table::specs::CpuStark::body_filter_imm, table::specs::CpuStark::constraint_ext_lines, table::specs::CpuStark::ext_lines_counts, table::specs::CpuStark::ext_lines_opcode, table::specs::CpuStark::ext_lines_selectors, table::specs::CpuStark::ext_lines_op1_imm))]
+
+ghost use Rattle.std.specs.Prelude.{◌≡◌, [], length};
 ghost use Rattle.residue.specs.Residues.{residues};
-ghost use Rattle.parts.specs.Parts.{write};
-ghost use Rattle.table.specs.Rows.{Rows};
-ghost use Rattle.table.specs.Shared.{Shared};
 ghost use Rattle.table.specs.Cells.{cells};
 ghost use Rattle.table.specs.Entry.{values};
-ghost use Rattle.table.specs.CpuStark.{lv_ext_length, constraint_tx_init, eval_packed_generic_body, constraint_ext_lines};
+ghost use Rattle.table.specs.CpuStark.{constraint_tx_init, eval_packed_generic_body, constraint_ext_lines};
 
+use cpu_context::body::{body_ctx_regs, body_filter_imm, body_tx_idx};
+use cpu_ext_lines::ext_lines::{
+    ext_lines_counts, ext_lines_op1_imm, ext_lines_opcode, ext_lines_selectors,
+};
+use cpu_tx_init::tx_init::{
+    tx_init_each_tx_head, tx_init_each_tx_regs, tx_init_first_line_head, tx_init_first_line_regs,
+};
+use cpu_wrapper::counted_row::CountedRow;
 use parts::put;
+use table::{Pair, Row};
 
-pub fn constraint_tx_init(
-    lv: &[u64],
-    nv: &[u64],
-    z_last: u64,
-    lagrange_basis_first: u64,
-    out: &mut [u64],
-    at: usize,
-)
-    requires rows { Rows lv.now nv.now }
-    requires z { z_last < p }
-    requires f { lagrange_basis_first < p }
-    requires room { at + 31 ≤ length out.old }
-    ensures { out.new ≡ write out.old at (values residues (cells [] lv.now nv.now z_last lagrange_basis_first) constraint_tx_init) }
+pub fn constraint_tx_init(pair: &Pair, out: &mut [u64])
+    requires { length out.old ≡ 31 }
+    ensures { out.new ≡ values residues (cells [] pair.now.lv pair.now.nv pair.now.z_last pair.now.lagrange_basis_first) constraint_tx_init }
 {
-    let first_line_head = cpu_tx_init::tx_init::tx_init_first_line_head(lv, lagrange_basis_first);
-    put(out, at, &first_line_head);
-    let first_line_regs = cpu_tx_init::tx_init::tx_init_first_line_regs(lv, lagrange_basis_first);
-    put(out, at + 5, &first_line_regs);
-    let each_tx_head = cpu_tx_init::tx_init::tx_init_each_tx_head(lv, nv, z_last);
-    put(out, at + 15, &each_tx_head);
-    let each_tx_regs = cpu_tx_init::tx_init::tx_init_each_tx_regs(lv, nv, z_last);
-    put(out, at + 21, &each_tx_regs);
+    put(
+        &mut out[0..5],
+        &tx_init_first_line_head(&pair.lv, pair.lagrange_basis_first),
+    );
+    put(
+        &mut out[5..15],
+        &tx_init_first_line_regs(&pair.lv, pair.lagrange_basis_first),
+    );
+    put(
+        &mut out[15..21],
+        &tx_init_each_tx_head(&pair.lv, &pair.nv, pair.z_last),
+    );
+    put(
+        &mut out[21..31],
+        &tx_init_each_tx_regs(&pair.lv, &pair.nv, pair.z_last),
+    );
 }
 
 // The constraints that eval_packed_generic yields itself.
-pub fn eval_packed_generic_body(lv: &[u64], nv: &[u64], z_last: u64, out: &mut [u64], at: usize)
-    requires rows { Rows lv.now nv.now }
-    requires z { z_last < p }
-    requires room { at + 12 ≤ length out.old }
-    ensures { out.new ≡ write out.old at (values residues (cells [] lv.now nv.now z_last 0) eval_packed_generic_body) }
+pub fn eval_packed_generic_body(pair: &Pair, out: &mut [u64])
+    requires { length out.old ≡ 12 }
+    ensures { out.new ≡ values residues (cells [] pair.now.lv pair.now.nv pair.now.z_last 0) eval_packed_generic_body }
 {
-    let tx_idx = cpu_context::body::body_tx_idx(lv, nv, z_last);
-    put(out, at, &tx_idx);
-    let ctx_regs = cpu_context::body::body_ctx_regs(lv, nv, z_last);
-    put(out, at + 2, &ctx_regs);
-    let filter_imm = cpu_context::body::body_filter_imm(lv);
-    put(out, at + 10, &filter_imm);
+    put(
+        &mut out[0..2],
+        &body_tx_idx(&pair.lv, &pair.nv, pair.z_last),
+    );
+    put(
+        &mut out[2..10],
+        &body_ctx_regs(&pair.lv, &pair.nv, pair.z_last),
+    );
+    put(&mut out[10..12], &body_filter_imm(&pair.lv));
 }
 
-pub fn constraint_ext_lines(lv: &[u64], nv: &[u64], out: &mut [u64], at: usize, ext_length: u64)
-    requires rows { Rows lv.now nv.now }
-    requires length { Shared (lv_ext_length ∷ []) lv.now [] (ext_length ∷ []) }
-    requires room { at + 25 ≤ length out.old }
-    ensures { out.new ≡ write out.old at (values residues (cells [] lv.now nv.now 0 0) constraint_ext_lines) }
+pub fn constraint_ext_lines(counted: &CountedRow, nv: &Row, out: &mut [u64])
+    requires { length out.old ≡ 25 }
+    ensures { out.new ≡ values residues (cells [] counted.now nv.now 0 0) constraint_ext_lines }
 {
-    let counts = cpu_ext_lines::ext_lines::ext_lines_counts(lv, nv, ext_length);
-    put(out, at, &counts);
-    let opcode = cpu_ext_lines::ext_lines::ext_lines_opcode(lv, nv);
-    put(out, at + 4, &opcode);
-    let selectors = cpu_ext_lines::ext_lines::ext_lines_selectors(lv, nv);
-    put(out, at + 5, &selectors);
-    let op1_imm = cpu_ext_lines::ext_lines::ext_lines_op1_imm(lv, nv);
-    put(out, at + 24, &op1_imm);
+    let lv = counted.row();
+    put(&mut out[0..4], &ext_lines_counts(counted, nv));
+    put(&mut out[4..5], &ext_lines_opcode(lv, nv));
+    put(&mut out[5..24], &ext_lines_selectors(lv, nv));
+    put(&mut out[24..25], &ext_lines_op1_imm(lv, nv));
 }

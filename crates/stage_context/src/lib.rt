@@ -1,36 +1,37 @@
 // The first stage of the table (A to E), written to a buffer group by group.
 #![tactic(auto)]
 
-ghost use Rattle.std.specs.Prelude.{◌≡◌, [], ◌<◌, ◌≤◌, length};
-ghost use Rattle.algebra.specs.Prime.{p};
+ghost use Rattle.std.specs.Prelude.{◌≡◌, [], length};
 ghost use Rattle.residue.specs.Residues.{residues};
-ghost use Rattle.parts.specs.Parts.{write};
-ghost use Rattle.table.specs.Rows.{Rows};
 ghost use Rattle.table.specs.Cells.{cells};
 ghost use Rattle.table.specs.Entry.{values};
 ghost use Rattle.stage_context.specs.Stage.{context};
 
 use cpu_context::env_idx::constraint_env_idx;
 use cpu_stark::*;
-use cpu_wrapper::wrapper::{constraint_wrapper_cols, lv_ext_length};
+use cpu_wrapper::counted_row::CountedRow;
+use cpu_wrapper::wrapper::constraint_wrapper_cols;
 use parts::put;
+use table::Pair;
 
 pub mod cpu_stark;
 
 // Values 1 to 82.
-pub fn eval_context(lv: &[u64], nv: &[u64], z_last: u64, lagrange_basis_first: u64, out: &mut [u64])
-    requires rows { Rows lv.now nv.now }
-    requires z { z_last < p }
-    requires f { lagrange_basis_first < p }
-    requires room { 82 ≤ length out.old }
-    ensures { out.new ≡ write out.old 0 (values residues (cells [] lv.now nv.now z_last lagrange_basis_first) context) }
+#[tactic(auto, unfolding(algebra::specs::Expr::eval, table::specs::Entry::values, table::specs::Entry::each, table::specs::CpuStark::constraint_tx_init, table::specs::CpuStark::tx_init_first_line_head, table::specs::CpuStark::tx_init_first_line_regs, table::specs::CpuStark::tx_init_each_tx_head, table::specs::CpuStark::tx_init_each_tx_regs, table::specs::CpuStark::eval_packed_generic_body, table::specs::CpuStark::body_tx_idx, table::specs::CpuStark::body_ctx_regs, table::specs::CpuStark::body_filter_imm, table::specs::CpuStark::constraint_ext_lines, table::specs::CpuStark::ext_lines_counts, table::specs::CpuStark::ext_lines_opcode, table::specs::CpuStark::ext_lines_selectors, table::specs::CpuStark::ext_lines_op1_imm, table::specs::CpuStark::constraint_wrapper_cols, table::specs::CpuStark::constraint_env_idx, table::specs::CpuStark::lv_is_ext_inst, table::specs::CpuStark::nv_is_ext_inst, table::specs::CpuStark::lv_ext_length, crate::specs::Stage::context))]
+pub fn eval_context(pair: &Pair, out: &mut [u64])
+    requires { length out.old ≡ 82 }
+    ensures { out.new ≡ values residues (cells [] pair.now.lv pair.now.nv pair.now.z_last pair.now.lagrange_basis_first) context }
 {
-    let ext_length = lv_ext_length(lv);
-    let wrapper_cols = constraint_wrapper_cols(lv, nv, z_last, ext_length);
-    put(out, 0, &wrapper_cols);
-    constraint_tx_init(lv, nv, z_last, lagrange_basis_first, out, 7);
-    eval_packed_generic_body(lv, nv, z_last, out, 38);
-    constraint_ext_lines(lv, nv, out, 50, ext_length);
-    let env_idx = constraint_env_idx(lv, nv, z_last);
-    put(out, 75, &env_idx);
+    let counted = CountedRow::new(&pair.lv);
+    put(
+        &mut out[0..7],
+        &constraint_wrapper_cols(&counted, &pair.nv, pair.z_last),
+    );
+    constraint_tx_init(pair, &mut out[7..38]);
+    eval_packed_generic_body(pair, &mut out[38..50]);
+    constraint_ext_lines(&counted, &pair.nv, &mut out[50..75]);
+    put(
+        &mut out[75..82],
+        &constraint_env_idx(&pair.lv, &pair.nv, pair.z_last),
+    );
 }

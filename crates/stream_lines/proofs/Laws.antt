@@ -1,28 +1,37 @@
--- The line of a pair, and the lines of its values, put one after the other.
-use mathlib.Core.Path.{◌≡◌, refl, ap, subst, ◌∙◌}
+-- The lines of a pair's values, put one after the other.
+use mathlib.Core.Path.{◌≡◌, refl, sym, ap, ◌∙◌}
 use mathlib.Core.Logic.{◌≢◌}
-use mathlib.Core.List.{List, [], ◌∷◌, ◌++◌, append-nil}
-use Prim.Native.Nat.{ℕ, ◌+◌, ◌*◌, ◌≤◌, ◌<◌}
+use mathlib.Core.List.{List, [], ◌∷◌, ◌++◌, append_assoc, append-nil}
+use Prim.Native.Nat.{ℕ, ◌+◌, ◌-◌, ◌*◌, ◌≤◌, ◌<◌}
 use native.Mathlib.Numerals.{add-one}
 use native.Mathlib.Omega.{arith}
 use borrow.Author.Tests.{eq-eqb, ne_eqb}
 use lib.ListN.{length, take, get_or}
 use lib.Seq.{take-suc, length-take-le}
-use Rattle.tally.specs.Tally.{tally_of}
-use Rattle.tally.specs.declared.Tally.{Tally}
+use Rattle.algebra.specs.Prime.{p}
+use Rattle.refusals.specs.Refusal.{greatest}
 use Rattle.field_signed.specs.Signed.{signed_of}
-use Rattle.text.specs.Put.{Put}
-use Rattle.stream_text.specs.Lines.{line_of}
-use Rattle.stream_text.specs.PairLines.{line_of_pair}
+use Rattle.text.specs.Decimal.{decimal_of, signed_decimal}
+use Rattle.text.proofs.Digits.{decimal_below}
 use Rattle.stream_text.specs.Faults.{pair_faults, fault_line, faults_text, faults_of_pair}
-use Rattle.stream_text.proofs.Short.{faults_short}
+use Rattle.stream_text.proofs.Short.{signed_small, signed_large, faults_short}
 use Rattle.stream_text.proofs.Tells.{pair-append, text-append}
 
--- the line of a pair, from the tally of its values
-pub counted : (i : ℕ) (vs : List ℕ) {t : Tally} {old new : List ℕ} {at next : ℕ} → t ≡ tally_of vs
-    → Put old new at next (line_of i t.count t.lowest) → Put old new at next (line_of_pair i vs)
-counted i vs {t} {old} {new} {at} {next} e p =
-    subst (λ (x : Tally). Put old new at next (line_of i x.count x.lowest)) e p
+-- how long a line's numbers are at most
+pub pair_digits : (pair : ℕ) → pair < 65536 → length (decimal_of pair) ≤ 5
+pair_digits pair h = decimal_below 4 pair (omega arith)
+
+pub number_digits : (number : ℕ) → number < 1000 → length (decimal_of number) ≤ 3
+number_digits number h = decimal_below 2 number h
+
+-- a signed number, put as its digits, or as its sign and then its digits
+pub small_put : (out : List ℕ) (v : ℕ) → v ≤ greatest → out ++ decimal_of v ≡ out ++ signed_decimal (signed_of v)
+small_put out v h = ap (λ (l : List ℕ). out ++ l) (sym (signed_small v h))
+
+pub large_put : (out : List ℕ) (v : ℕ) → greatest < v → v < p
+    → (out ++ (45 ∷ [])) ++ decimal_of (p - v) ≡ out ++ signed_decimal (signed_of v)
+large_put out v h l =
+    append_assoc out (45 ∷ []) (decimal_of (p - v)) ∙ ap (λ (d : List ℕ). out ++ d) (sym (signed_large v h l))
 
 pub none_yet : (pair : ℕ) → faults_of_pair pair [] ≡ []
 unfolding pair_faults faults_text

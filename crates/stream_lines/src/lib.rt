@@ -1,20 +1,17 @@
-// The text that the programs print of a pair, and their line of a refusal. Each is put behind the first `at` bytes of a
-// buffer, and the answer is the next place.
+// The texts that rowdesk and faults print of a pair, and their line of a refusal, put behind what a buffer holds.
 #![tactic(auto)]
 
-ghost use Rattle.std.specs.Prelude.{◌≡◌, ◌++◌, ◌+◌, ◌*◌, ◌≤◌, ◌<◌, length};
+ghost use Rattle.std.specs.Prelude.{◌≡◌, ◌++◌, ◌+◌, ◌≤◌, ◌<◌, length};
 ghost use Rattle.algebra.specs.Prime.{p};
-ghost use Rattle.algebra.specs.Lists.{All};
 ghost use Rattle.field_signed.specs.Signed.{signed_of};
 ghost use Rattle.text.specs.Decimal.{decimal_of, signed_decimal};
-ghost use Rattle.text.specs.Put.{Put};
 ghost use Rattle.stream_text.specs.Lines.{space, line_of, refused_of};
-ghost use Rattle.stream_text.specs.Faults.{fault_line, faults_of_pair};
-ghost use Rattle.stream_text.specs.Text.{text_by, pair_bytes};
+ghost use Rattle.stream_text.specs.Faults.{fault_line};
 
 use algebra::P;
 use field_signed::GREATEST;
-use stream_text::Text;
+use stream_text::PairText;
+use text::TextBuffer;
 
 const SPACE: u8 = 32;
 
@@ -22,100 +19,103 @@ const LINE_END: u8 = 10;
 
 const MINUS: u8 = 45;
 
+// A line of its count, as rowdesk prints.
+pub struct Counts {}
+
+// A line for each of its values that is not 0, as faults prints.
+pub struct Faults {}
+
 // Two numbers with a space behind each, with which a line begins.
-fn two_numbers(a: u64, b: u64, out: &mut [u8], at: usize) -> usize
-    requires { at + length (decimal_of a) + 22 ≤ length out.old }
-    ensures numbers { Put out.old out.new at result (decimal_of a ++ space ++ decimal_of b ++ space) }
-    ensures next { result ≡ at + length (decimal_of a) + length (decimal_of b) + 2 }
+fn two_numbers<const N: usize>(a: u64, b: u64, out: &mut TextBuffer<N>)
+    requires { length out.old + length (decimal_of a) + 22 ≤ N }
+    ensures numbers { out.new ≡ out.old ++ decimal_of a ++ space ++ decimal_of b ++ space }
+    ensures next { length out.new ≡ length out.old + length (decimal_of a) + length (decimal_of b) + 2 }
 {
-    let next = text::put_decimal(a, out, at);
-    let next = text::put_byte(SPACE, out, next);
-    let next = text::put_decimal(b, out, next);
-    text::put_byte(SPACE, out, next)
+    out.push_decimal(a);
+    out.push_byte(SPACE);
+    out.push_decimal(b);
+    out.push_byte(SPACE);
 }
 
+#[tactic(auto, using(text::proofs::Digits::decimal_short), unfolding(stream_text::specs::Lines::line_of))]
 // The line of a pair's count.
-fn line(index: u64, count: u64, lowest: u64, out: &mut [u8], at: usize) -> usize
-    requires { at + 64 ≤ length out.old }
-    ensures { Put out.old out.new at result (line_of index count lowest) }
+fn line<const N: usize>(index: u64, count: u64, lowest: u64, out: &mut TextBuffer<N>)
+    requires { length out.old + 64 ≤ N }
+    ensures { out.new ≡ out.old ++ line_of index count lowest }
 {
-    let next = two_numbers(index, count, out, at);
-    let next = text::put_decimal(lowest, out, next);
-    text::put_byte(LINE_END, out, next)
+    two_numbers(index, count, out);
+    out.push_decimal(lowest);
+    out.push_byte(LINE_END);
 }
 
+#[tactic(auto, unfolding(stream_text::specs::Lines::refused_of))]
 // The line of a refusal.
-pub fn refused(number: u64, out: &mut [u8], at: usize) -> usize
-    requires { at + 64 ≤ length out.old }
-    ensures { Put out.old out.new at result (refused_of number) }
+pub fn refused<const N: usize>(number: u64, out: &mut TextBuffer<N>)
+    requires { length out.old + 64 ≤ N }
+    ensures { out.new ≡ out.old ++ refused_of number }
 {
-    let word = text::put(b"refused ", out, at);
-    let next = text::put_decimal(number, out, word);
-    text::put_byte(LINE_END, out, next)
+    out.push(b"refused ");
+    out.push_decimal(number);
+    out.push_byte(LINE_END);
 }
 
+#[tactic(auto, using(crate::proofs::Laws::small_put, crate::proofs::Laws::large_put))]
 // The signed form of a residue: at most 19 digits, behind a minus sign where it is negative.
-fn signed_decimal(value: u64, out: &mut [u8], at: usize) -> usize
-    requires room { at + 21 ≤ length out.old }
+fn put_signed<const N: usize>(value: u64, out: &mut TextBuffer<N>)
+    requires room { length out.old + 21 ≤ N }
     requires below { value < p }
-    ensures { Put out.old out.new at result (signed_decimal (signed_of value)) }
+    ensures { out.new ≡ out.old ++ signed_decimal (signed_of value) }
 {
     if value <= GREATEST {
-        text::put_decimal(value, out, at)
+        out.push_decimal(value);
     } else {
-        let next = text::put_byte(MINUS, out, at);
-        text::put_decimal(P - value, out, next)
+        out.push_byte(MINUS);
+        out.push_decimal(P - value);
     }
 }
 
+#[tactic(auto, using(crate::proofs::Laws::pair_digits, crate::proofs::Laws::number_digits, stream_text::proofs::Short::signed_short), unfolding(stream_text::specs::Faults::fault_line))]
 // The line of a value: at most 5 digits, 3 digits and a signed number of 20 bytes, two spaces and the line's end.
-fn fault(pair: u64, number: u64, value: u64, out: &mut [u8], at: usize) -> usize
-    requires room { at + 31 ≤ length out.old }
+fn fault<const N: usize>(pair: u64, number: u64, value: u64, out: &mut TextBuffer<N>)
+    requires room { length out.old + 31 ≤ N }
     requires pair { pair < 65536 }
     requires number { number < 1000 }
     requires below { value < p }
-    ensures { Put out.old out.new at result
-        (fault_line (record { pair = pair; number = number; signed = signed_of value })) }
+    ensures { out.new ≡ out.old ++ fault_line (record { pair = pair; number = number; signed = signed_of value }) }
 {
-    let next = two_numbers(pair, number, out, at);
-    let next = signed_decimal(value, out, next);
-    text::put_byte(LINE_END, out, next)
+    two_numbers(pair, number, out);
+    put_signed(value, out);
+    out.push_byte(LINE_END);
 }
 
-// The lines of a pair's values that are not 0.
-fn faults(pair: u64, values: &[u64], out: &mut [u8], at: usize) -> usize
-    requires room { at + 31 * length values.now ≤ length out.old }
-    requires few { length values.now ≤ 226 }
-    requires pair { pair < 65536 }
-    requires below { All (λ v. v < p) values.now }
-    ensures { Put out.old out.new at result (faults_of_pair pair values.now) }
-{
-    let mut next = at;
-    let mut i = 0;
-    while i < values.len() {
-        let value = values[i];
-        let listed = value != 0;
-        if listed {
-            next = fault(pair, i as u64 + 1, value, out, next);
-        }
-        i += 1;
+impl<const N: usize> PairText<N> for Counts {
+    ghost use Rattle.stream_text.specs.PairLines.{line_of_pair};
+    ghost use Rattle.stream_text.proofs.Short.{counts_short};
+
+    ghost text = { line_of_pair };
+
+    fn put(index: u64, values: &[u64], out: &mut TextBuffer<N>) {
+        let found = tally::count_nonzero(values);
+        line(index, found.count, found.lowest, out);
     }
-    next
+
+    ghost text_short = { counts_short };
 }
 
-// The text of a pair, from its index and its values.
-pub fn pair(text: Text, index: u64, values: &[u64], out: &mut [u8], at: usize) -> usize
-    requires room { at + pair_bytes ≤ length out.old }
-    requires few { length values.now ≤ 226 }
-    requires index { index < 65536 }
-    requires below { All (λ v. v < p) values.now }
-    ensures { Put out.old out.new at result (text_by text index values.now) }
-{
-    match text {
-        Text::Counts => {
-            let found = tally::count_nonzero(values);
-            line(index, found.count, found.lowest, out, at)
+impl<const N: usize> PairText<N> for Faults {
+    ghost use Rattle.stream_text.specs.Faults.{faults_of_pair};
+    ghost use Rattle.stream_text.proofs.Short.{faults_of_pair_short};
+
+    ghost text = { faults_of_pair };
+
+    fn put(index: u64, values: &[u64], out: &mut TextBuffer<N>) {
+        for (i, value) in values.iter().enumerate() {
+            let listed = *value != 0;
+            if listed {
+                fault(index, i as u64 + 1, *value, out);
+            }
         }
-        Text::Faults => faults(index, values, out, at),
     }
+
+    ghost text_short = { faults_of_pair_short };
 }

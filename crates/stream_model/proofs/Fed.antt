@@ -8,12 +8,9 @@ use native.Mathlib.Nat.{add-zero, add-suc}
 use native.Mathlib.Omega.{arith}
 use lib.ListN.{length, take, drop}
 use lib.Seq.{drop-drop}
-use Rattle.text.specs.Put.{Put}
-use Rattle.text.proofs.Puts.{put-none, then}
 use Rattle.stream_model.specs.Model.{PairText, Stepped, feed_of, Gives}
 use Rattle.stream_model.specs.Sound.{Sound, Onward}
 use Rattle.stream_model.specs.declared.State.{State}
-use Rattle.stream_model.specs.declared.Step.{Step}
 use Rattle.stream_model.specs.Rows.{then_fed, fed_rows}
 use Rattle.stream_model.proofs.Laws.{behind}
 
@@ -58,24 +55,24 @@ module _ (text : PairText) where
       ∙ then_behind (fed_rows text k s bytes).text _ _
 
   -- where i rows of the bytes are fed, from the state s on
-  pub record Fed (s : State) (bytes old new : List ℕ) (i next : ℕ) (state : State) : Type 0 where
+  pub record Fed (s : State) (bytes old new : List ℕ) (i : ℕ) (state : State) : Type 0 where
     pub is : state ≡ (fed_rows text i s bytes).state
-    pub put : Put old new 0 next (fed_rows text i s bytes).text
+    pub put : new ≡ old ++ (fed_rows text i s bytes).text
     pub onward : Onward i s state
 
-  pub fed_none : (s : State) (bytes out : List ℕ) → Sound s → Fed s bytes out out 0 0 s
+  pub fed_none : (s : State) (bytes out : List ℕ) → Sound s → Fed s bytes out out 0 s
   unfolding fed_rows
   fed_none s bytes out k = record {
     is = refl;
-    put = put-none out 0;
+    put = sym (append-nil out);
     onward = record { sound = k; rows = λ _. sym (add-zero s.rows) };
   }
 
-  module _ (s : State) (bytes old : List ℕ) {mid : List ℕ} {i next : ℕ} {state : State} (f : Fed s bytes old mid i next state) where
+  module _ (s : State) (bytes old : List ℕ) {mid : List ℕ} {i : ℕ} {state : State} (f : Fed s bytes old mid i state) where
     -- one more row
-    pub fed_more : {r : Step} {new : List ℕ} → state.running ≡ true
-        → Gives (feed_of text state (take 752 (drop (752 * i) bytes))) r mid new next → Onward 1 state r.state
-        → Fed s bytes old new (i + 1) r.next r.state
+    pub fed_more : {r : State} {new : List ℕ} → state.running ≡ true
+        → Gives (feed_of text state (take 752 (drop (752 * i) bytes))) r mid new → Onward 1 state r
+        → Fed s bytes old new (i + 1) r
     unfolding fed_rows
     fed_more {r} {new} e g o =
         let row = take 752 (drop (752 * i) bytes) in
@@ -87,16 +84,17 @@ module _ (text : PairText) where
         (record {
           is = g.state_is ∙ ap (λ (t : Stepped). t.state) a ∙ ap (λ (t : Stepped). t.state) (sym q);
           put =
-              subst (λ (t : List ℕ). Put old new 0 r.next t)
-              (ap (λ (t : Stepped). (fed_rows text i s bytes).text ++ t.text) a ∙ ap (λ (t : Stepped). t.text) (sym q))
-              (then (omega arith) f.put g.put);
+              g.text_is
+              ∙ ap₂ (λ (l : List ℕ) (t : Stepped). l ++ t.text) f.put a
+              ∙ append_assoc old (fed_rows text i s bytes).text (feed_of text (fed_rows text i s bytes).state row).text
+              ∙ ap (λ (t : Stepped). old ++ t.text) (sym q);
           onward = record { sound = o.sound; rows = λ x. let p = o.rows x in let u = f.onward.rows e in omega arith };
         })
 
     -- with no row nothing is changed
-    pub fed_still : i ≡ 0 → (state ≡ s) × (next ≡ 0)
+    pub fed_still : i ≡ 0 → (state ≡ s) × (mid ≡ old)
     unfolding fed_rows
     fed_still e = (
       f.is ∙ ap (λ (k : ℕ). (fed_rows text k s bytes).state) e,
-      f.put.count ∙ ap (λ (k : ℕ). 0 + length (fed_rows text k s bytes).text) e,
+      f.put ∙ ap (λ (k : ℕ). old ++ (fed_rows text k s bytes).text) e ∙ append-nil old,
     )

@@ -15,7 +15,6 @@ use Rattle.table.specs.Table.{pair_values}
 use Rattle.words.specs.Words.{words}
 use Rattle.stream_model.specs.Model.{Stepped, blank, refused_by, Gives}
 use Rattle.stream_model.specs.declared.State.{State}
-use Rattle.stream_model.specs.declared.Step.{Step}
 
 -- what holds in both cases of a test
 pub by_cases : {A : Type 0} (P : A → Type 0) (b : Bool) {x y : A} → (b ≡ true → P x) → (b ≡ false → P y) → P (cond b x y)
@@ -27,9 +26,9 @@ abbrev pub behind : List ℕ → Stepped → Stepped
 behind before t = record { state = t.state; text = before ++ t.text }
 
 -- a refusal before there are masks
-pub refused_blank : {s : State} (number : ℕ) {r : Step} {old new : List ℕ} {at : ℕ} → s ≡ blank → Gives (refused_by s number) r old new at
-    → Gives (refused_by blank number) r old new at
-refused_blank {s} number {r} {old} {new} {at} e g = subst (λ (x : State). Gives (refused_by x number) r old new at) e g
+pub refused_blank : {s : State} (number : ℕ) {r : State} {old new : List ℕ} → s ≡ blank
+    → Gives (refused_by s number) r old new → Gives (refused_by blank number) r old new
+refused_blank {s} number {r} {old} {new} e g = subst (λ (x : State). Gives (refused_by x number) r old new) e g
 
 pub words-length : (k : ℕ) (b : List ℕ) → length (words k b) ≡ k
 unfolding words

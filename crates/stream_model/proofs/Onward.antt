@@ -15,7 +15,6 @@ use Rattle.words.specs.Words.{words}
 use Rattle.stream_model.specs.Model.{PairText, blank, ended, accept_of, row_of, end_of, feed_of, masks_of, start_of, Stepped, Gives}
 use Rattle.stream_model.specs.Sound.{Sound, Onward}
 use Rattle.stream_model.specs.declared.State.{State}
-use Rattle.stream_model.specs.declared.Step.{Step}
 use Rattle.stream_model.proofs.Laws.{by_cases, words-length}
 
 -- a state that ends is as sound as it was
@@ -55,8 +54,8 @@ module _ (text : PairText) (s : State) (k : Sound s) where
       by_cases Leads (eqb (length bytes) 0) (λ _. end_leads)
       (λ _. by_cases Leads (eqb (length bytes) 752) (λ _. row_leads (words 94 bytes) (words-length 94 bytes)) (λ _. stops 1 s s k))
 
-  pub fed : (bytes : List ℕ) {r : Step} {old new : List ℕ} {at : ℕ} → Gives (feed_of text s bytes) r old new at
-      → Gives (feed_of text s bytes) r old new at × Onward 1 s r.state
+  pub fed : (bytes : List ℕ) {r : State} {old new : List ℕ} → Gives (feed_of text s bytes) r old new
+      → Gives (feed_of text s bytes) r old new × Onward 1 s r
   fed bytes g = (g, subst (Onward 1 s) (sym g.state_is) (feed_leads bytes))
 
 -- the state that the masks leave
@@ -79,8 +78,8 @@ start_sound bytes =
     (λ e. record { masks = accepted-masks (words 25 bytes) (words-length 25 bytes) e; first = zero_row; previous = zero_row; few = omega arith }))
     (λ _. blank-sound)
 
-pub started : (bytes : List ℕ) {r : Step} {old new : List ℕ} {at : ℕ} → Gives (start_of bytes) r old new at
-    → Gives (start_of bytes) r old new at × Sound r.state
+pub started : (bytes : List ℕ) {r : State} {old new : List ℕ} → Gives (start_of bytes) r old new
+    → Gives (start_of bytes) r old new × Sound r
 started bytes g = (g, subst Sound (sym g.state_is) (start_sound bytes))
 
 -- how many steps may follow: a step leaves fewer

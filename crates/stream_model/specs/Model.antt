@@ -6,10 +6,8 @@ use Rattle.table.specs.Masks.{NUM-MASKS}
 use Rattle.table.specs.Table.{pair_values}
 use Rattle.run_pairs.specs.Run.{first_weight, row_at}
 use Rattle.words.specs.Words.{words}
-use Rattle.text.specs.Put.{Put}
 use Rattle.stream_text.specs.Lines.{refused_of}
 use Rattle.stream_model.specs.declared.State.{State}
-use Rattle.stream_model.specs.declared.Step.{Step}
 
 -- the bytes of the masks and of a row: "each value 8 bytes"
 abbrev pub mask_bytes : ℕ
@@ -127,10 +125,10 @@ refusal_after n rest =
     (cond (ltb (length rest) row_bytes || leb 65536 n) 1
     (cond (row_contents (words NUM-CPU-COLS (take row_bytes rest))).holds 6 0))
 
--- a step's answer is one step of the model: the state, and the text behind the first `at` bytes of the buffer, which else is as it was
-pub record Gives (s : Stepped) (r : Step) (old new : List ℕ) (at : ℕ) : Type 0 where
-  pub state_is : r.state ≡ s.state
-  pub put : Put old new at r.next s.text
+-- a step's answer is one step of the model: the state, and the text behind what the buffer held
+pub record Gives (s : Stepped) (state : State) (old new : List ℕ) : Type 0 where
+  pub state_is : state ≡ s.state
+  pub text_is : new ≡ old ++ s.text
 
 -- the masks of an input, and the run of its n rows
 abbrev pub masks_in : List ℕ → List ℕ

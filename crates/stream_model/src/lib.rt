@@ -1,6 +1,8 @@
 // The state of a program that reads masks and rows and prints a text of each pair. There is no code.
 #![tactic(auto)]
 
+ghost use Rattle.stream_model.specs.Sound.{Sound};
+
 use table::columns::NUM_CPU_COLS;
 use table::masks::NUM_MASKS;
 
@@ -19,9 +21,9 @@ pub struct State {
     pub running: bool,
 }
 
-// The state after a step, and the place behind what it put to be printed.
+// A state whose masks and rows are canonical, and which has no more rows than a run.
 #[derive(Clone, Copy)]
-pub struct Step {
+pub struct SoundState {
     pub state: State,
-    pub next: usize,
+    pub ghost sound: { Sound state },
 }

@@ -15,10 +15,9 @@ use Rattle.text.specs.Decimal.{decimal_of, signed_decimal}
 use Rattle.text.proofs.Digits.{decimal_short, decimal_below}
 use Rattle.tally.specs.Tally.{nonzeros, first_from}
 use Rattle.stream_text.specs.Lines.{line_of}
-use Rattle.stream_text.specs.Faults.{Fault, pair_faults, fault_line, faults_text}
-use Rattle.stream_text.specs.Text.{text_by, pair_bytes}
-use Rattle.stream_text.specs.declared.Text.{Text}
-use Rattle.stream_text.specs.declared.Text.TheVariants.{Counts, Faults}
+use Rattle.stream_text.specs.PairLines.{line_of_pair}
+use Rattle.stream_text.specs.Faults.{Fault, pair_faults, fault_line, faults_text, faults_of_pair}
+use Rattle.stream_text.specs.Room.{pair_bytes}
 
 pub line_short : (index count lowest : ℕ) → length (line_of index count lowest) ≤ 64
 unfolding line_of
@@ -81,6 +80,9 @@ module _ (pair : ℕ) (h : pair < 65536) where
       go true r f = omega arith
       go false r f = rw length-append (omega arith)
 
-pub text_short : (t : Text) (i : ℕ) (vs : List ℕ) → i < 65536 → length vs ≤ 226 → length (text_by t i vs) ≤ pair_bytes
-text_short Counts i vs h l = omega (arith, line_short i (nonzeros vs) (first_from 1 vs))
-text_short Faults i vs h l = omega (arith, faults_short i h 1 vs (omega arith))
+-- no text of a pair is longer than the room for it
+pub counts_short : (i : ℕ) (vs : List ℕ) → i < 65536 → length vs ≤ 226 → length (line_of_pair i vs) ≤ pair_bytes
+counts_short i vs h l = omega (arith, line_short i (nonzeros vs) (first_from 1 vs))
+
+pub faults_of_pair_short : (i : ℕ) (vs : List ℕ) → i < 65536 → length vs ≤ 226 → length (faults_of_pair i vs) ≤ pair_bytes
+faults_of_pair_short i vs h l = omega (arith, faults_short i h 1 vs (omega arith))

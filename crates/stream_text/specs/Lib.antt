@@ -2,4 +2,4 @@ pub mod Lines
 pub mod PairLines
 pub mod Faults
 pub mod Listed
-pub mod Text
+pub mod Room

@@ -39,13 +39,8 @@ digits_are (suc k) n (suc f) a b c =
     (digits_are k (n / 10) f (omega arith) (λ h. rw t (omega arith)) (omega arith))
     (glyph_digit (n % 10) (omega arith)))
 
-pub decimal_is : (n r : ℕ) → IsDigitCount 10 1 n r → r ≤ 20 → last_digits 10 r n ≡ decimal_of n
-unfolding decimal_of
-decimal_is n zero w h = absurd (omega (arith, w.0))
-decimal_is n (suc k) w h = digits_are k n 19 w.1 w.2 (omega arith)
-
-pub decimal_few : (n r : ℕ) → IsDigitCount 10 1 n r → n < 2 ^ 64 → r ≤ 20
-decimal_few n r w h = go (leb r 20) refl
+count_few : (n r : ℕ) → IsDigitCount 10 1 n r → n < 2 ^ 64 → r ≤ 20
+count_few n r w h = go (leb r 20) refl
   where
     go : (t : Bool) → leb r 20 ≡ t → r ≤ 20
     go true p = leb-true r 20 p
@@ -54,6 +49,11 @@ decimal_few n r w h = go (leb r 20) refl
         let m : 10 ^ 20 ≤ 10 ^ (r - 1) = pow-le-pow_right {n = 10} (lit< tt) {i = 20} {j = r - 1} (omega arith) in
         let k : 10 ^ (r - 1) ≤ n = w.2 (omega arith) in
         absurd (omega arith)
+
+pub decimal_is : (n r : ℕ) → IsDigitCount 10 1 n r → n < 2 ^ 64 → last_digits 10 r n ≡ decimal_of n
+unfolding decimal_of
+decimal_is n zero w h = absurd (omega (arith, w.0))
+decimal_is n (suc k) w h = let f = count_few n (suc k) w h in digits_are k n 19 w.1 w.2 (omega arith)
 
 -- a number has at most j + 1 digits where it is below 10 ^ (j + 1), or where it is taken to have no more
 digits_few : (k j n : ℕ) → (j < k → n < 10 ^ suc j) → length (digits_of k n) ≤ suc j

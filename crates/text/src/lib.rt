@@ -1,39 +1,86 @@
 // Text and decimal numbers, put into a buffer piece by piece.
 #![tactic(auto)]
 
-ghost use Rattle.std.specs.Prelude.{◌∷◌, [], ◌+◌, ◌≤◌, ◌<◌, length};
+ghost use Rattle.std.specs.Prelude.{◌≡◌, ◌∷◌, [], ◌++◌, ◌+◌, ◌≤◌, ◌<◌, length};
 ghost use Rattle.text.specs.Decimal.{decimal_of};
-ghost use Rattle.text.specs.Put.{Put};
 
-// Copies `src` behind the first `at` bytes of `out`; the answer is the next place.
-pub fn put(src: &[u8], out: &mut [u8], at: usize) -> usize
-    requires { at + length src.now ≤ length out.old }
-    ensures { Put out.old out.new at result src.now }
-{
-    let mut i = 0;
-    while i < src.len() {
-        out[at + i] = src[i];
-        i += 1;
+use std::marker::Model;
+
+// Text of at most N bytes. A contract sees the list of its bytes.
+#[derive(Drop)]
+pub struct TextBuffer<const N: usize> {
+    bytes: [u8; N],
+    len: usize,
+}
+
+impl<const N: usize> Model for TextBuffer<N> {
+    ghost use Rattle.std.specs.Prelude.{ℕ, List, ◌≤◌, take};
+
+    ghost Value = { List ℕ };
+
+    ghost view = { λ t. take t.len t.bytes };
+
+    ghost invariant = { λ t. t.len ≤ N };
+}
+
+impl<const N: usize> TextBuffer<N> {
+    pub fn new() -> TextBuffer<N>
+        ensures { result ≡ [] }
+    {
+        TextBuffer {
+            bytes: [0; N],
+            len: 0,
+        }
     }
-    at + i
-}
 
-// The byte b behind the first `at` bytes of `out`.
-pub fn put_byte(b: u8, out: &mut [u8], at: usize) -> usize
-    requires { at < length out.old }
-    ensures { Put out.old out.new at result (b ∷ []) }
-{
-    out[at] = b;
-    at + 1
-}
+    pub fn bytes(&self) -> &[u8]
+        ensures value { result.now ≡ self.now }
+        ensures within { length self.now ≤ N }
+    {
+        &self.bytes[..self.len]
+    }
 
-// The decimal digits of n, of which there are at most 20, behind the first `at` bytes of `out`.
-pub fn put_decimal(n: u64, out: &mut [u8], at: usize) -> usize
-    requires { at + 20 ≤ length out.old }
-    ensures digits { Put out.old out.new at result (decimal_of n) }
-    ensures few { result ≤ at + 20 }
-{
-    let mut text = [0u8; 20];
-    let k = io::decimal(n, &mut text);
-    put(&text[..k], out, at)
+    // How many bytes more there is room for.
+    pub fn room(&self) -> usize
+        ensures { result + length self.now ≡ N }
+    {
+        N - self.len
+    }
+
+    pub fn clear(&mut self)
+        ensures { self.new ≡ [] }
+    {
+        self.len = 0;
+    }
+
+    pub fn push(&mut self, text: &[u8])
+        requires { length self.old + length text.now ≤ N }
+        ensures { self.new ≡ self.old ++ text.now }
+    {
+        let start = self.len;
+        let end = start + text.len();
+        let all = &mut self.bytes[..];
+        all[start..end].copy_from_slice(text);
+        self.len = end;
+    }
+
+    pub fn push_byte(&mut self, byte: u8)
+        requires { length self.old < N }
+        ensures { self.new ≡ self.old ++ byte ∷ [] }
+    {
+        self.bytes[self.len] = byte;
+        self.len += 1;
+    }
+
+    #[tactic(auto, using(crate::proofs::Digits::decimal_is, crate::proofs::Digits::decimal_short))]
+    // The decimal digits of n, of which there are at most 20.
+    pub fn push_decimal(&mut self, n: u64)
+        requires { length self.old + 20 ≤ N }
+        ensures digits { self.new ≡ self.old ++ decimal_of n }
+        ensures few { length self.new ≤ length self.old + 20 }
+    {
+        let mut digits = [0u8; 20];
+        let count = io::decimal(n, &mut digits);
+        self.push(&digits[..count]);
+    }
 }

@@ -1,11 +1,5 @@
-use Prim.Native.Nat.{◌≤◌, ◌-◌}
-use mathlib.Core.Path.{◌≡◌}
-use lib.ListN.{length}
-use lib.Seq.{paste}
+use Rattle.std.proofs.Common.{◌≡◌, length, take}
 use Rattle.parts.proofs.put.Given as goal
 
 abbrev pub invariant-loop-i : goal.invariant-loop-i
-invariant-loop-i l = (l.i ≤ l.n) × (l.n ≡ length l.values) × (length l.out ≡ length l.initial.out) × (l.out ≡ paste l.initial.out l.at l.values l.i)
-
-abbrev pub decreases-loop-i : goal.decreases-loop-i
-decreases-loop-i l = l.n - l.i
+invariant-loop-i l = (length l.out ≡ length l.values) × (take l.i l.out ≡ take l.i l.values)

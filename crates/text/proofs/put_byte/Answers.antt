@@ -1,6 +1,0 @@
--- `text::put_byte` meets its contract.
-use Rattle.text.proofs.Puts.{put_one}
-use Rattle.text.proofs.put_byte.Goals as goal
-
-pub returns : goal.returns
-returns c = put_one _ _ _ c.requires
