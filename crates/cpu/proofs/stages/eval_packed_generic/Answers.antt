@@ -1,4 +1,10 @@
-use Rattle.cpu.proofs.Buffer.{buffer-is}
+-- `cpu::stages::eval_packed_generic` meets its contract.
+use mathlib.Core.Path.{sym, ◌∙◌}
+use Rattle.cpu.proofs.Filled.{filled}
+use Rattle.cpu.proofs.Whole.{context-length, instruction-length, flow-length, stages}
 use Rattle.cpu.proofs.stages.eval_packed_generic.Goals as goal
+
 pub returns : goal.returns
-returns c = let e = buffer-is c.words-masks.result.now c.words-lv.result.now c.words-nv.result.now c.value.result c.value-2.result c.args.out.now c.requires in cc
+returns c =
+    rw (c.eval_context.ensures, c.eval_instruction.ensures, c.eval_flow.ensures, c.eval_opcodes.ensures)
+    (filled _ _ _ _ c.args.out.now (context-length _) (instruction-length _) (flow-length _) c.requires ∙ sym (stages _ _ _ _ _))
