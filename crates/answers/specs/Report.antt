@@ -13,11 +13,7 @@ pub record Report : Type 0 where
   pub failing : ℕ
   pub spot : Spot
 
--- "The number returns with a zero report (0, 0, none)"
-abbrev pub zero_report : ℕ → Report
-zero_report n = record { number = n; pairs = 0; failing = 0; spot = Clean }
-
--- what an answer tells
+-- what an answer tells: of a run that is turned back "the number returns with a zero report (0, 0, none)"
 abbrev pub told : Result Found Refusal → Report
 told (Ok r) = record { number = 0; pairs = r.pairs; failing = r.failing; spot = r.spot }
-told (Err r) = zero_report (number r)
+told (Err r) = record { number = number r; pairs = 0; failing = 0; spot = Clean }

@@ -1,2 +1,0 @@
-pub mod Opcode
-pub mod Picked
