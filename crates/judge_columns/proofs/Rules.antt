@@ -212,3 +212,6 @@ pub ruleset chains = (and3_of, and4_of, and5_of, and6_of)
 pub ruleset choices = (some3_of, some5_of, some6_of)
 
 pub ruleset counts = (eqb_of, leb_of)
+
+-- how the code and the rulebook group tests
+pub ruleset bools = (and_assoc, and-true, or_assoc, or-false, not-not)
