@@ -9,7 +9,6 @@ use stage_opcodes::eval_opcodes;
 use table::Pair;
 
 // The 226 values of a pair of rows.
-#[tactic(auto)]
 pub fn eval_packed_generic(pair: &Pair, out: &mut [u64])
     requires { length out.old ≡ 226 }
     ensures { out.new ≡ pair_values pair.now.masks pair.now.lv pair.now.nv pair.now.z_last pair.now.lagrange_basis_first }
