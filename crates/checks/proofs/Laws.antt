@@ -58,15 +58,3 @@ module _ (masks lv nv : List ℕ) (more rest : List Condition) (k : Clear (sizes
 
   pub call_masks : Masks masks
   call_masks = masks-are masks lv nv sizes_clear contents_clear
-
--- four numbers, and those behind them
-pub canonical_four : (a : List ℕ) (i : ℕ) → i + 4 ≤ length a →
-    canonical (drop i a) ≡ (ltb (get_or a i 0) p && (ltb (get_or a (i + 1) 0) p && (ltb (get_or a (i + 2) 0) p && (ltb (get_or a (i + 3) 0) p && canonical (drop (i + 4) a)))))
-canonical_four a i h =
-    let e2 : i + 1 + 1 ≡ i + 2 = omega arith in
-    let e3 : i + 2 + 1 ≡ i + 3 = omega arith in
-    let e4 : i + 3 + 1 ≡ i + 4 = omega arith in
-    canonical-at a i (omega arith)
-    ∙ ap (λ (b : Bool). ltb (get_or a i 0) p && b) (canonical-at a (i + 1) (omega arith)
-    ∙ rw e2 (ap (λ (b : Bool). ltb (get_or a (i + 1) 0) p && b) (canonical-at a (i + 2) (omega arith)
-    ∙ rw e3 (ap (λ (b : Bool). ltb (get_or a (i + 2) 0) p && b) (canonical-at a (i + 3) (omega arith) ∙ rw e4)))))

@@ -135,30 +135,6 @@ module _ (a : List ℕ) (i : ℕ) where
   unfolding canonical
   canonical-at h = ap canonical (front h)
 
-  pub canonical-end : length a ≤ i → canonical (drop i a) ≡ true
-  unfolding canonical
-  canonical-end h = ap canonical (drop_of_length-le a h)
-
-  pub member-at : (x : ℕ) → i < length a → member x (drop i a) ≡ (eqb (get_or a i 0) x || member x (drop (i + 1) a))
-  member-at x h = ap (member x) (front h) ∙ ap (λ (t : Bool). t || member x (drop (i + 1) a)) (eqb_comm x (get_or a i 0))
-
-  pub member-end : (x : ℕ) → length a ≤ i → member x (drop i a) ≡ false
-  member-end x h = ap (member x) (drop_of_length-le a h)
-
-  distinct-at : i < length a → distinct (drop i a) ≡ (not (member (get_or a i 0) (drop (i + 1) a)) && distinct (drop (i + 1) a))
-  unfolding distinct
-  distinct-at h = ap distinct (front h)
-
-  pub distinct-end : length a ≤ i → distinct (drop i a) ≡ true
-  unfolding distinct
-  distinct-end h = ap distinct (drop_of_length-le a h)
-
-  -- a turn of a loop that asks whether the element at i is among those after it, `&a[i + 1..]`
-  pub distinct_turn : i < length a → (b : Bool) → member (get_or a i 0) (take (length a - (i + 1)) (drop (i + 1) a)) ≡ b
-      → distinct (drop i a) ≡ (not b && distinct (drop (i + 1) a))
-  distinct_turn h b e =
-      distinct-at h ∙ ap (λ (t : Bool). not t && distinct (drop (i + 1) a)) (ap (member (get_or a i 0)) (sym (to_end (i + 1) a)) ∙ e)
-
 -- the numbers of the table are those of its lines
 pub refusal-number : (r : Refusal) → refusal (number r) ≡ r
 refusal-number RowLength = refl

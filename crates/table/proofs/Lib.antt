@@ -1,5 +1,4 @@
 pub mod Numbers
 pub mod Called
 pub mod Rows
-pub mod Shared
 pub mod Zero
