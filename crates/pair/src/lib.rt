@@ -22,6 +22,6 @@ pub fn pair_values(
         out.old (number_of result) out.new }
 {
     let pair = accept(masks, lv, nv, z_last, lagrange_basis_first, out.len())?;
-    cpu::stages::eval_packed_generic(&pair, &mut out[..NUM_VALUES]);
+    cpu::stages::eval_packed_generic(&pair, &mut out[0..NUM_VALUES]);
     Ok(())
 }
