@@ -7,7 +7,7 @@ ghost use Rattle.residue.specs.Residues.{add_p, sub_p, mul_p};
 ghost use Rattle.checked_residue.specs.Answer.{checked};
 
 use algebra::P;
-use refusals::NOT_BELOW_P;
+const NOT_BELOW_P: u64 = 7;
 
 // A canonical residue, or the number with which the call is turned back.
 #[derive(Clone, Copy)]
