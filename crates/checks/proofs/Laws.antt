@@ -1,20 +1,13 @@
 -- What a test that a branch asked for tells of the definition that it equals.
 use mathlib.Core.Path.{◌≡◌, sym, ap, ◌∙◌}
-use mathlib.Core.Bool.{Bool, true, false, not, ◌&&◌}
+use mathlib.Core.Bool.{Bool, true, false, not}
 use mathlib.Core.List.{List, [], ◌++◌}
-use Prim.Native.Nat.{ℕ, ◌+◌, ◌≤◌}
-use native.Mathlib.Omega.{arith}
-use lib.ListN.{length, get_or, drop}
-use lib.Dec.{ltb}
+use Prim.Native.Nat.{ℕ, ◌+◌}
+use lib.ListN.{length}
 use borrow.Author.Tests.{not-false}
-use Rattle.algebra.specs.Prime.{p}
 use Rattle.refusals.specs.Refusal.{Condition, lowest, mask_contents, row_contents, sizes, contents, canonical}
-use Rattle.refusals.proofs.Laws.{Clear, clear, clear_front, clear_back, behind, length-is, canonical-below, none_true, canonical-at}
+use Rattle.refusals.proofs.Laws.{Clear, clear, clear_front, clear_back, behind, length-is, canonical-below, none_true}
 use Rattle.table.specs.Rows.{Row, Rows, Masks}
-
--- of a test r of the definition b, denied by `!`
-pub denied : {r b : Bool} → r ≡ b → r ≡ false → not b ≡ true
-denied e t = ap not (sym e ∙ t)
 
 pub kept : {r b : Bool} → r ≡ b → r ≡ true → not b ≡ false
 kept e t = ap not (sym e ∙ t)

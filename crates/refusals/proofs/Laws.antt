@@ -2,14 +2,14 @@
 use mathlib.Core.Path.{◌≡◌, refl, sym, ap, ◌∙◌}
 use mathlib.Core.Bool.{Bool, true, false, cond, not, ◌&&◌, ◌||◌, and_assoc, and-true}
 use mathlib.Core.List.{List, [], ◌∷◌, ◌++◌}
-use Prim.Native.Nat.{ℕ, zero, suc, ◌+◌, ◌-◌, ◌<◌, ◌≤◌}
+use Prim.Native.Nat.{ℕ, zero, suc, ◌+◌, ◌-◌, ◌<◌}
 use native.Mathlib.Numerals.{add-one}
 use native.Mathlib.Omega.{arith}
-use lib.ListN.{length, get_or, take, drop, drop_of_length-le, take-append-drop}
+use lib.ListN.{length, get_or, take, drop, take-append-drop}
 use lib.Seq.{drop-cons}
 use lib.Dec.{T, eqb, ltb, ltb→lt, lit<}
 use borrow.Author.Tests.{eqb-true, eqb-false, eq-eqb, ne_eqb, not-false, ltb-true}
-use Rattle.std.specs.Prelude.{Ok, Err}
+use Rattle.std.specs.Prelude.{Ok}
 use Rattle.std.specs.List.{fold, list_any}
 use Rattle.algebra.specs.Prime.{p}
 use Rattle.algebra.proofs.Slices.{to_end}
@@ -130,10 +130,6 @@ eqb_comm a b = go (eqb a b) refl
 module _ (a : List ℕ) (i : ℕ) where
   pub front : i < length a → drop i a ≡ get_or a i 0 ∷ drop (i + 1) a
   front h = rw (add-one, drop-cons a i 0)
-
-  pub canonical-at : i < length a → canonical (drop i a) ≡ (ltb (get_or a i 0) p && canonical (drop (i + 1) a))
-  unfolding canonical
-  canonical-at h = ap canonical (front h)
 
 -- the numbers of the table are those of its lines
 pub refusal-number : (r : Refusal) → refusal (number r) ≡ r

@@ -7,15 +7,14 @@ use native.Mathlib.Omega.{arith}
 use borrow.Author.Tests.{leb-false, eqb-true}
 use lib.ListN.{length}
 use lib.Dec.{eqb, leb}
-use Rattle.refusals.specs.Refusal.{row_contents, mask_contents}
+use Rattle.refusals.specs.Refusal.{row_contents}
 use Rattle.table.specs.Rows.{Row}
 use Rattle.table.proofs.Zero.{zeros-below, zero_row}
-use Rattle.checks.proofs.Laws.{accepted-row, accepted-masks}
-use Rattle.words.specs.Words.{words}
-use Rattle.stream_model.specs.Model.{PairText, blank, ended, accept_of, row_of, end_of, feed_of, masks_of, start_of, Stepped, Gives}
+use Rattle.checks.proofs.Laws.{accepted-row}
+use Rattle.stream_model.specs.Model.{PairText, blank, ended, accept_of, row_of, end_of, Stepped, Gives}
 use Rattle.stream_model.specs.Sound.{Sound, Onward}
 use Rattle.stream_model.specs.declared.State.{State}
-use Rattle.stream_model.proofs.Laws.{by_cases, words-length}
+use Rattle.stream_model.proofs.Laws.{by_cases}
 
 -- a state that ends is as sound as it was
 pub stops : (k : ℕ) (old s : State) → Sound s → Onward k old (ended s)
