@@ -11,8 +11,7 @@ use judge_kinds::kinds::Kind;
 use judge_opcode::named;
 use residue::Residue;
 use table::columns::*;
-use table::masks as mask;
-use table::{Masks, Row};
+use table::{Masks, Row, masks as mask};
 
 // L
 pub fn keeps_arithmetic(masks: &Masks, lv: &Row, kind: Option<Kind>) -> bool

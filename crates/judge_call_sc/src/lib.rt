@@ -48,7 +48,8 @@ pub fn keeps_call_sc_lines(step: &Step) -> bool
     // END, ext, not diff → PC, CLK kept.
     (!(end & ext & not_diff) | kept(lv, nv, COL_PC) & kept(lv, nv, COL_CLK))
         // Column 89 is 1 for CALL_SC ext, else 0;
-        & ((!call_sc_ext | on(lv, IS_SCCALL_EXT_LINE)) & (call_sc_ext | off(lv, IS_SCCALL_EXT_LINE)))
+        & ((!call_sc_ext | on(lv, IS_SCCALL_EXT_LINE))
+            & (call_sc_ext | off(lv, IS_SCCALL_EXT_LINE)))
         // column 91 likewise for END.
         & ((!end_ext | on(lv, COL_FILTER_SCCALL_END)) & (end_ext | off(lv, COL_FILTER_SCCALL_END)))
 }

@@ -22,7 +22,8 @@ pub fn keeps_clk(step: &Step) -> bool
     // next ext, not END' → CLK kept.
     (!(on(nv, COL_IS_EXT_LINE) & off(nv, COL_S_END)) | kept(lv, nv, COL_CLK))
         // same, neither CALL_SC nor END, next main → CLK' = CLK + 1.
-        & (!(on(lv, COL_IS_NEXT_LINE_SAME_TX) & !call_sc_or_end & off(nv, COL_IS_EXT_LINE)) | clk_grows)
+        & (!(on(lv, COL_IS_NEXT_LINE_SAME_TX) & !call_sc_or_end & off(nv, COL_IS_EXT_LINE))
+            | clk_grows)
 }
 
 // J

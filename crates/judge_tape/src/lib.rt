@@ -33,7 +33,8 @@ pub fn keeps_tape_lines(step: &Step) -> bool
         // TLOAD or TSTORE, ext, next ext → AUX0, S_OP0[0] grow by 1.
         & (!((tload | tstore) & on(lv, COL_IS_EXT_LINE) & next_ext) | aux0_grows & addr_grows)
         // TSTORE main → S_OP0[0]' = TP, AUX0' = OP0.
-        & (!(tstore & main) | carried(lv, COL_TP, nv, COL_S_OP0_START) & carried(lv, COL_OP0, nv, COL_AUX0))
+        & (!(tstore & main)
+            | carried(lv, COL_TP, nv, COL_S_OP0_START) & carried(lv, COL_OP0, nv, COL_AUX0))
         // TLOAD main → AUX0' = DST; OP0 not 0 → S_OP0[0]' + OP1 = TP; OP0 not 1 → S_OP0[0]' = OP1.
         & (!(tload & main)
             | carried(lv, COL_DST, nv, COL_AUX0)
@@ -58,13 +59,16 @@ pub fn keeps_tp(step: &Step) -> bool
     // TSTORE: next ext → TP kept; next main → TP' = S_OP0[0] + 1.
     (!tstore | (!on(nv, COL_IS_EXT_LINE) | tp_kept) & (!off(nv, COL_IS_EXT_LINE) | tp_behind))
         // same, and TSTORE and CALL_SC' both or neither → TP kept.
-        & (!(on(lv, COL_IS_NEXT_LINE_SAME_TX) & (tstore & next_call_sc | !tstore & next_not_call_sc)) | tp_kept)
+        & (!(on(lv, COL_IS_NEXT_LINE_SAME_TX)
+            & (tstore & next_call_sc | !tstore & next_not_call_sc))
+            | tp_kept)
         // CALL_SC' without CALL_SC, or CALL_SC main → TP kept.
         & (!(next_call_sc & !call_sc | call_sc & off(lv, COL_IS_EXT_LINE)) | tp_kept)
         // CALL_SC ext → TP' = TP + 12.
         & (!(call_sc & ext) | tp_grows)
         // Column 88 is 1 for TLOAD or TSTORE ext, else 0.
-        & ((!tape_ext | on(lv, COL_FILTER_TAPE_LOOKING)) & (tape_ext | off(lv, COL_FILTER_TAPE_LOOKING)))
+        & ((!tape_ext | on(lv, COL_FILTER_TAPE_LOOKING))
+            & (tape_ext | off(lv, COL_FILTER_TAPE_LOOKING)))
 }
 
 // M

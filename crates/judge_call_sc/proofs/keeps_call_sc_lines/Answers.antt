@@ -9,8 +9,20 @@ pub returns : goal.returns
 unfolding rules_N
 returns c =
     sym (keeps _ _ _ _ _ ∙
-    search
-    (c.is-end.ensures, c.on-ext.ensures, c.off-not_diff.ensures, c.is.ensures, c.kept.ensures,
-    c.kept-2.ensures, c.on.ensures, c.off.ensures, c.on-2.ensures, c.off-2.ensures, tells, rules,
-    chains, exprs)
+    search (
+      c.is-end.ensures,
+      c.on-ext.ensures,
+      c.off-not_diff.ensures,
+      c.is.ensures,
+      c.kept.ensures,
+      c.kept-2.ensures,
+      c.on.ensures,
+      c.off.ensures,
+      c.on-2.ensures,
+      c.off-2.ensures,
+      tells,
+      rules,
+      chains,
+      exprs,
+    )
     depth 100 fits 100000)

@@ -9,8 +9,20 @@ pub returns : goal.returns
 unfolding rules_E
 returns c =
     sym (keeps _ _ _ _ _ ∙
-    search
-    (c.is-call_sc.ensures, c.is-end.ensures, c.on-diff.ensures, c.on-same_tx.ensures,
-    c.kept-cnt_kept.ensures, c.kept-env_kept.ensures, c.grows.ensures, c.carried.ensures, c.off.ensures,
-    c.on.ensures, tells, rules, chains, exprs)
+    search (
+      c.is-call_sc.ensures,
+      c.is-end.ensures,
+      c.on-diff.ensures,
+      c.on-same_tx.ensures,
+      c.kept-cnt_kept.ensures,
+      c.kept-env_kept.ensures,
+      c.grows.ensures,
+      c.carried.ensures,
+      c.off.ensures,
+      c.on.ensures,
+      tells,
+      rules,
+      chains,
+      exprs,
+    )
     depth 100 fits 100000)

@@ -10,9 +10,24 @@ pub returns : goal.returns
 unfolding rules_D
 returns c =
     sym (keeps _ _ _ _ _ ∙
-    search
-    (c.is_ext_kind-ext_kind.ensures, c.off-main.ensures, c.grows-cnt_grows.ensures, c.kept.ensures,
-    c.same.ensures, c.kept-2.ensures, c.off.ensures, c.at.ensures, c.ext_length.ensures,
-    c.equal.ensures, c.off-2.ensures, c.next_is_ext_kind.ensures.row, c.on.ensures, c.on-2.ensures,
-    length_told, tells, rules, chains, exprs)
+    search (
+      c.is_ext_kind-ext_kind.ensures,
+      c.off-main.ensures,
+      c.on-next_ext.ensures,
+      c.off-next_main.ensures,
+      c.grows-cnt_grows.ensures,
+      c.kept.ensures,
+      c.same.ensures,
+      c.kept-2.ensures,
+      c.at.ensures,
+      c.ext_length.ensures,
+      c.equal.ensures,
+      c.off.ensures,
+      c.next_is_ext_kind.ensures.row,
+      length_told,
+      tells,
+      rules,
+      chains,
+      exprs,
+    )
     depth 100 fits 100000)

@@ -9,7 +9,18 @@ pub returns : goal.returns
 unfolding rules_I
 returns c =
     sym (keeps _ _ _ _ _ ∙
-    search
-    (c.is.ensures, c.is-2.ensures, c.grows-clk_grows.ensures, c.on.ensures, c.off.ensures,
-    c.kept.ensures, c.on-2.ensures, c.off-2.ensures, tells, rules, chains, exprs)
+    search (
+      c.is.ensures,
+      c.is-2.ensures,
+      c.grows-clk_grows.ensures,
+      c.on.ensures,
+      c.off.ensures,
+      c.kept.ensures,
+      c.on-2.ensures,
+      c.off-2.ensures,
+      tells,
+      rules,
+      chains,
+      exprs,
+    )
     depth 100 fits 100000)

@@ -10,8 +10,23 @@ pub returns : goal.returns
 unfolding rules_J
 returns c =
     sym (keeps _ _ _ _ _ ∙
-    search
-    (c.off-next_main.ensures, c.is.ensures, c.is-2.ensures, c.kept-clk_kept.ensures,
-    c.pc_target-target.ensures, c.on.ensures, c.off.ensures, c.at.ensures, c.equal.ensures,
-    c.is-3.ensures, c.at-2.ensures, c.bit.ensures.rule, goes_told, tells, rules, chains, exprs)
+    search (
+      c.off-next_main.ensures,
+      c.is.ensures,
+      c.is-2.ensures,
+      c.kept-clk_kept.ensures,
+      c.pc_target-target.ensures,
+      c.on.ensures,
+      c.off.ensures,
+      c.at.ensures,
+      c.equal.ensures,
+      c.is-3.ensures,
+      c.at-2.ensures,
+      c.bit.ensures.rule,
+      goes_told,
+      tells,
+      rules,
+      chains,
+      exprs,
+    )
     depth 100 fits 100000)

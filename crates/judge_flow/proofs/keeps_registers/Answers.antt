@@ -9,7 +9,15 @@ pub returns : goal.returns
 unfolding rules_K
 returns c =
     sym (keeps _ _ _ _ _ ∙
-    search
-    (c.on-fp_is_dst.ensures, c.kept-fp_kept.ensures, c.registers_free.ensures, c.kept_unless_dst.ensures,
-    c.fp_free.ensures, tells, rules, chains, exprs)
+    search (
+      c.on-fp_is_dst.ensures,
+      c.kept-fp_kept.ensures,
+      c.registers_free.ensures,
+      c.kept_unless_dst.ensures,
+      c.fp_free.ensures,
+      tells,
+      rules,
+      chains,
+      exprs,
+    )
     depth 100 fits 100000)
