@@ -69,7 +69,7 @@ pub fn grows(lv: &Row, nv: &Row, column: usize, n: u64) -> bool
 }
 
 // Whether the next row has in column `to` what the current row has in column `from`.
-pub fn carried(lv: &Row, from: usize, nv: &Row, to: usize) -> bool
+pub fn carried<'a>(lv: &Row<'a>, from: usize, nv: &Row<'a>, to: usize) -> bool
     requires current { from < NUM-CPU-COLS }
     requires next { to < NUM-CPU-COLS }
     ensures { result ≡ holds (cells [] lv.now nv.now 0 0) (nv_of to ≐ lv_of from) }

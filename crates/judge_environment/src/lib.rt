@@ -19,6 +19,8 @@ pub fn keeps_ext_lines(step: &Step) -> bool
     let (lv, nv) = (step.lv, step.nv);
     let ext_kind = is_ext_kind(step.kind);
     let main = off(lv, COL_IS_EXT_LINE);
+    let next_ext = on(nv, COL_IS_EXT_LINE);
+    let next_main = off(nv, COL_IS_EXT_LINE);
     let cnt_grows = grows(lv, nv, COL_EXT_CNT, 1);
     let selectors = COL_S_SIMPLE_ARITHMATIC_OP;
     let instruction_kept = kept(lv, nv, COL_OPCODE)
@@ -28,12 +30,12 @@ pub fn keeps_ext_lines(step: &Step) -> bool
     (ext_kind | main)
         // Ext kind: next main → EXT_CNT = length; main → EXT_CNT 0.
         & (!ext_kind
-            | (!off(nv, COL_IS_EXT_LINE) | equal(lv.at(COL_EXT_CNT), ext_length(lv, step.kind)))
+            | (!next_main | equal(lv.at(COL_EXT_CNT), ext_length(lv, step.kind)))
                 & (!main | off(lv, COL_EXT_CNT)))
         // Next ext kind and ext → EXT_CNT' = EXT_CNT + 1.
-        & (!(next_is_ext_kind(nv) & on(nv, COL_IS_EXT_LINE)) | cnt_grows)
+        & (!(next_is_ext_kind(nv) & next_ext) | cnt_grows)
         // Next ext → OPCODE, 19 selectors, OP1_IMM kept.
-        & (!on(nv, COL_IS_EXT_LINE) | instruction_kept)
+        & (!next_ext | instruction_kept)
 }
 
 // E
