@@ -1,5 +1,4 @@
 -- `judge_plain::plain_flags` meets its contract.
-use mathlib.Core.Path.{sym}
 use Rattle.rulebook.specs.Plain.{bits, plain_flags, pair_plain}
 use Rattle.judge_columns.proofs.Rules.{bools}
 use Rattle.judge_plain.proofs.plain_flags.Goals as goal
