@@ -12,7 +12,7 @@ use Rattle.table.specs.Cells.{Cell}
 use Rattle.rulebook.specs.Words.{bit}
 use Rattle.rulebook.specs.Rule.{Rule, fact, ◌≐◌, deny, ◌and◌, ◌or◌, ◌⇒◌, Sentence, always, [t], [f], holds, keeps_sentence, keeps_all}
 
--- b and every one of several, and b or one of several, from the left as the code has them and from the right as the rules have them
+-- b and every one of several, from the left as the code has them and from the right as the rules have them
 abbrev pub left_and : Bool → List Bool → Bool
 left_and b [] = b
 left_and b (c ∷ cs) = left_and (b && c) cs
