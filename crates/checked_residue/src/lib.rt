@@ -1,60 +1,40 @@
 // The entries for callers that hand over what they read: an operand that is not below p is refused.
 #![tactic(auto)]
 
-ghost use Rattle.std.specs.Prelude.{◌≡◌, [], ◌∷◌};
-ghost use Rattle.refusals.specs.Refusal.{lowest, not_below_p};
+ghost use Rattle.std.specs.Prelude.{◌≡◌, [], ◌∷◌, IfOk};
+ghost use Rattle.refusals.specs.Refusal.{lowest, number_of, not_below_p};
 ghost use Rattle.residue.specs.Residues.{add_p, sub_p, mul_p};
 ghost use Rattle.checked_residue.specs.Answer.{checked};
 
-use algebra::P;
-use refusals::NOT_BELOW_P;
+use refusals::Refusal;
+use residue::Residue;
 
-// A canonical residue, or the number with which the call is turned back.
-#[derive(Clone, Copy)]
-pub enum Residue {
-    Value(u64),
-    Refused(u64),
-}
-
-// The number with which two operands are turned back; 0 where they are not.
-fn refusal(a: u64, b: u64) -> u64
-    ensures { result ≡ lowest (not_below_p (a ∷ b ∷ []) ∷ []) }
+// Both operands as residues.
+#[tactic(auto, unfolding(refusals::specs::Refusal::canonical))]
+fn operands(a: u64, b: u64) -> Result<(Residue, Residue), Refusal>
+    ensures number { number_of result ≡ lowest (not_below_p (a ∷ b ∷ []) ∷ []) }
+    ensures value { IfOk result (λ operands. operands ≡ (a, b)) }
 {
-    if a >= P {
-        return NOT_BELOW_P;
-    }
-    if b >= P {
-        return NOT_BELOW_P;
-    }
-    0
+    Ok((checks::residue(a)?, checks::residue(b)?))
 }
 
-pub fn add(a: u64, b: u64) -> Residue
+pub fn add(a: u64, b: u64) -> Result<u64, Refusal>
     ensures { result ≡ checked add_p a b }
 {
-    let n = refusal(a, b);
-    if n != 0 {
-        return Residue::Refused(n);
-    }
-    Residue::Value(residue::below::add(a, b))
+    let (a, b) = operands(a, b)?;
+    Ok((a + b).value())
 }
 
-pub fn sub(a: u64, b: u64) -> Residue
+pub fn sub(a: u64, b: u64) -> Result<u64, Refusal>
     ensures { result ≡ checked sub_p a b }
 {
-    let n = refusal(a, b);
-    if n != 0 {
-        return Residue::Refused(n);
-    }
-    Residue::Value(residue::below::sub(a, b))
+    let (a, b) = operands(a, b)?;
+    Ok((a - b).value())
 }
 
-pub fn mul(a: u64, b: u64) -> Residue
+pub fn mul(a: u64, b: u64) -> Result<u64, Refusal>
     ensures { result ≡ checked mul_p a b }
 {
-    let n = refusal(a, b);
-    if n != 0 {
-        return Residue::Refused(n);
-    }
-    Residue::Value(residue::mul(a, b))
+    let (a, b) = operands(a, b)?;
+    Ok((a * b).value())
 }

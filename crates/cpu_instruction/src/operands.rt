@@ -38,9 +38,11 @@ pub fn operand_sums(lv: &Row, nv: &Row) -> [Residue; 6]
     let uses_op0 = main_line * sum_s_op0;
     let uses_op1 = main_line * sum_s_op1;
     let uses_dst = main_line * sum_s_dst;
-    let op0_sum = plus_products(Residue::ZERO, lv, COL_S_OP0_START, lv, COL_REGS_START, REGISTER_NUM);
-    let op1_sum = plus_products(Residue::ZERO, lv, COL_S_OP1_START, lv, COL_REGS_START, REGISTER_NUM);
-    let dst_sum = plus_products(Residue::ZERO, lv, COL_S_DST_START, nv, COL_REGS_START, REGISTER_NUM);
+    let regs = lv.part::<COL_REGS_START, REGISTER_NUM>();
+    let n_regs = nv.part::<COL_REGS_START, REGISTER_NUM>();
+    let op0_sum = plus_products(Residue::ZERO, lv, COL_S_OP0_START, &regs, 0, REGISTER_NUM);
+    let op1_sum = plus_products(Residue::ZERO, lv, COL_S_OP1_START, &regs, 0, REGISTER_NUM);
+    let dst_sum = plus_products(Residue::ZERO, lv, COL_S_DST_START, &n_regs, 0, REGISTER_NUM);
     [
         // Only one register used for op0.
         uses_op0 * (one - sum_s_op0),

@@ -1,65 +1,62 @@
 // constraint_reg_consistency (K): an instruction changes no other register than the one that it writes.
-ghost use Rattle.std.specs.Prelude.{◌≡◌, [], ◌<◌};
-ghost use Rattle.algebra.specs.Prime.{p};
+ghost use Rattle.std.specs.Prelude.{◌≡◌, [], ◌+◌, get_or};
 ghost use Rattle.algebra.specs.Expr.{eval};
-ghost use Rattle.residue.specs.Residues.{residues};
+ghost use Rattle.residue.specs.Residues.{residues, sub_p, mul_p};
+ghost use Rattle.table.specs.Columns.{COL-REGS-START, COL-S-DST-START};
 ghost use Rattle.table.specs.Cells.{cells};
-ghost use Rattle.table.specs.Rows.{Row, Rows};
 ghost use Rattle.table.specs.Entry.{values};
+ghost use Rattle.parts.specs.Parts.{up_to};
 ghost use Rattle.table.specs.CpuStark.{multi_reg_change, dst_reg_changes, fp_consistency};
 
-use residue::below::{add, one_minus, sub};
-use residue::mul;
-use sums::{plus_product, reduced, word};
+use residue::Residue;
+use sums::Sum;
+use table::Row;
 use table::columns::*;
 
 // The place of fp, the last register.
 const FP: usize = REGISTER_NUM - 1;
 
 // 1 on the rows that may change several registers at once.
-pub fn multi_reg_change(lv: &[u64]) -> u64
-    requires { Row lv.now }
-    ensures value { result ≡ eval residues (cells [] lv.now [] 0 0) multi_reg_change }
-    ensures canonical { result < p }
+#[tactic(auto, unfolding(algebra::specs::Expr::eval, residue::specs::Residues::sub_p, table::specs::CpuStark::multi_reg_change))]
+pub fn multi_reg_change(lv: &Row) -> Residue
+    ensures { result ≡ eval residues (cells [] lv.now [] 0 0) multi_reg_change }
 {
-    let is_crossing_inst = lv[COL_IS_NEXT_LINE_DIFF_INST];
-    let several = word(add(lv[COL_S_SLOAD], lv[COL_S_PSDN]));
-    let with_call_sc = plus_product(several, lv[COL_S_CALL_SC], is_crossing_inst);
-    reduced(plus_product(with_call_sc, lv[COL_S_END], sub(1, lv[COL_IS_EXT_LINE])))
+    let is_crossing_inst = lv.at(COL_IS_NEXT_LINE_DIFF_INST);
+    Sum::from(lv.at(COL_S_SLOAD) + lv.at(COL_S_PSDN))
+        .plus(lv.at(COL_S_CALL_SC), is_crossing_inst)
+        .plus(lv.at(COL_S_END), Residue::ONE - lv.at(COL_IS_EXT_LINE))
+        .reduced()
+}
+
+// What each register but fp changes by, times f, where the instruction does not write it.
+#[tactic(auto, unfolding(parts::specs::Parts::up_to))]
+fn changes_unless_dst(f: Residue, lv: &Row, nv: &Row) -> [Residue; FP]
+    ensures { result ≡ up_to 9 (λ i. mul_p (mul_p f (sub_p 1 (get_or lv.now (COL-S-DST-START + i) 0))) (sub_p (get_or nv.now (COL-REGS-START + i) 0) (get_or lv.now (COL-REGS-START + i) 0))) }
+{
+    std::array::from_fn(|i| {
+        let register = COL_REGS_START + i;
+        f.times_one_minus(lv.at(COL_S_DST_START + i)) * (nv.at(register) - lv.at(register))
+    })
 }
 
 // 150 to 158: for normal opcode, only dst reg can change(not include fp)
-pub fn dst_reg_changes(lv: &[u64], nv: &[u64], z_last: u64) -> [u64; FP]
-    requires rows { Rows lv.now nv.now }
-    requires weight { z_last < p }
+#[tactic(auto, using(residue::proofs::Laws::mul_p_weight_first), unfolding(algebra::specs::Expr::eval, residue::specs::Residues::sub_p, parts::specs::Parts::up_to, table::specs::Entry::values, table::specs::Entry::each, table::specs::CpuStark::multi_reg_change, table::specs::CpuStark::dst_reg_changes))]
+pub fn dst_reg_changes(lv: &Row, nv: &Row, z_last: Residue) -> [Residue; FP]
     ensures { result ≡ values residues (cells [] lv.now nv.now z_last 0) dst_reg_changes }
 {
-    let s_dsts = &lv[COL_S_DST_START..COL_S_DST_END];
-    let regs = &lv[COL_REGS_START..COL_REGS_END];
-    let n_regs = &nv[COL_REGS_START..COL_REGS_END];
-    let one_reg_change = mul(sub(1, multi_reg_change(lv)), z_last);
-    let mut out = [0u64; FP];
-    for i in 0..FP {
-        out[i] = mul(
-            mul(one_reg_change, one_minus(s_dsts[i])),
-            sub(n_regs[i], regs[i]),
-        );
-    }
-    out
+    let one_reg_change = (Residue::ONE - multi_reg_change(lv)) * z_last;
+    changes_unless_dst(one_reg_change, lv, nv)
 }
 
 // 159: for fp consistency
-pub fn fp_consistency(lv: &[u64], nv: &[u64], z_last: u64) -> [u64; 1]
-    requires rows { Rows lv.now nv.now }
-    requires weight { z_last < p }
+#[tactic(auto, unfolding(algebra::specs::Expr::eval, residue::specs::Residues::sub_p, table::specs::Entry::values, table::specs::CpuStark::fp_consistency))]
+pub fn fp_consistency(lv: &Row, nv: &Row, z_last: Residue) -> [Residue; 1]
     ensures { result ≡ values residues (cells [] lv.now nv.now z_last 0) fp_consistency }
 {
-    let s_dsts = &lv[COL_S_DST_START..COL_S_DST_END];
-    let regs = &lv[COL_REGS_START..COL_REGS_END];
-    let n_regs = &nv[COL_REGS_START..COL_REGS_END];
-    let is_crossing_inst = lv[COL_IS_NEXT_LINE_DIFF_INST];
-    let call_sc = mul(lv[COL_S_CALL_SC], is_crossing_inst);
-    let fp_kept = sub(sub(sub(1, lv[COL_S_RET]), call_sc), lv[COL_S_END]);
-    let fp_diff = sub(n_regs[FP], regs[FP]);
-    [mul(mul(mul(fp_kept, sub(1, s_dsts[FP])), fp_diff), z_last)]
+    let one = Residue::ONE;
+    let is_crossing_inst = lv.at(COL_IS_NEXT_LINE_DIFF_INST);
+    let call_sc = lv.at(COL_S_CALL_SC) * is_crossing_inst;
+    let fp_kept = one - lv.at(COL_S_RET) - call_sc - lv.at(COL_S_END);
+    let fp_diff = nv.at(COL_REGS_START + FP) - lv.at(COL_REGS_START + FP);
+    [fp_kept * (one - lv.at(COL_S_DST_START + FP)) * fp_diff * z_last]
 }

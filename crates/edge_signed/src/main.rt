@@ -1,116 +1,60 @@
 // The edges of the signed form of a residue, run through the two maps: each answer is printed on a line, and proved
 // from its map's contract to be the one that is expected.
-#![tactic(auto)]
+#![tactic(auto, unfolding(refusals::specs::Refusal::canonical, field_signed::specs::Signed::signed_of))]
 
-ghost use Rattle.std.specs.Prelude.{◌≡◌, ◌≤◌, ◌<◌, nat_abs};
+ghost use Rattle.std.specs.Prelude.{◌≡◌, ◌≤◌, ◌<◌, nat_abs, Ok as Gives};
 ghost use Rattle.algebra.specs.Prime.{p};
 ghost use Rattle.refusals.specs.Refusal.{greatest};
-ghost use Rattle.checked_residue.specs.declared.Residue.TheVariants.{Value as Given};
-ghost use Rattle.field_signed.specs.declared.Signed.TheVariants.{Value};
-ghost use Rattle.field_signed.specs.Answer.{to_signed, to_residue, number as answer_number, value as answer_value};
+ghost use Rattle.field_signed.specs.Answer.{to_signed, to_residue};
 
 use algebra::P;
-use checked_residue::Residue;
-use edge_residues::residues;
-use field_signed::{GREATEST, Signed};
+use field_signed::GREATEST;
+use refusals::Refusal;
 
-// Document 01's number of an answer.
-fn number(s: Signed) -> u64
-    ensures { result ≡ answer_number s }
-{
-    match s {
-        Signed::Value(_) => 0,
-        Signed::Refused(n) => n,
-    }
-}
-
-// Its value.
-fn value(s: Signed) -> i64
-    ensures { result ≡ answer_value s }
-{
-    match s {
-        Signed::Value(z) => z,
-        Signed::Refused(_) => 0,
-    }
-}
-
-// Prints a signed number.
-fn print_signed(rt: HostRuntime, z: i64) {
-    if z < 0 {
-        let _ = rt.stdout().write_all(b"-");
-    }
-    let _ = rt.stdout().print(field_signed_maps::distance(z));
-}
-
-fn print_refused(rt: HostRuntime, n: u64) {
-    let _ = rt.stdout().write_all(b" refused ");
-    let _ = rt.stdout().print(n);
-}
-
-// Prints "signed residue = value" or "signed residue refused number".
-fn print_to(rt: HostRuntime, residue: u64, s: Signed) {
-    let _ = rt.stdout().write_all(b"signed ");
-    let _ = rt.stdout().print(residue);
-    match s {
-        Signed::Value(z) => {
-            let _ = rt.stdout().write_all(b" = ");
-            print_signed(rt, z);
-        }
-        Signed::Refused(n) => print_refused(rt, n),
-    }
-    let _ = rt.stdout().write_all(b"\n");
-}
-
-// Prints "unsigned value = residue" or "unsigned value refused number".
-fn print_back(rt: HostRuntime, value: i64, r: Residue) {
-    let _ = rt.stdout().write_all(b"unsigned ");
-    print_signed(rt, value);
-    match r {
-        Residue::Value(v) => {
-            let _ = rt.stdout().write_all(b" = ");
-            let _ = rt.stdout().print(v);
-        }
-        Residue::Refused(n) => print_refused(rt, n),
-    }
-    let _ = rt.stdout().write_all(b"\n");
-}
-
-// The entries, each with its line printed.
-fn signed(rt: HostRuntime, residue: u64) -> Signed
+// The maps, each with its line printed: "signed residue = value", "unsigned value = residue", or "refused number" behind
+// what was asked.
+fn signed(rt: HostRuntime, residue: u64) -> Result<i64, Refusal>
     ensures { result ≡ to_signed residue }
 {
-    let s = field_signed_maps::signed(residue);
-    print_to(rt, residue, s);
-    s
+    let answer = field_signed_maps::signed(residue);
+    let _ = match answer {
+        Ok(value) => println!(rt; "signed {residue} = {value}"),
+        Err(refusal) => println!(rt; "signed {residue} {refusal}"),
+    };
+    answer
 }
 
-fn unsigned(rt: HostRuntime, value: i64) -> Residue
+fn unsigned(rt: HostRuntime, value: i64) -> Result<u64, Refusal>
     ensures { result ≡ to_residue value }
 {
-    let r = field_signed_maps::unsigned(value);
-    print_back(rt, value, r);
-    r
+    let answer = field_signed_maps::unsigned(value);
+    let _ = match answer {
+        Ok(residue) => println!(rt; "unsigned {value} = {residue}"),
+        Err(refusal) => println!(rt; "unsigned {value} {refusal}"),
+    };
+    answer
 }
 
 // A residue and its signed number: there, and back.
-fn both(rt: HostRuntime, residue: u64, z: i64)
-    requires { (to_signed residue ≡ Value z) × (to_residue z ≡ Given residue) }
+fn both(rt: HostRuntime, residue: u64, value: i64)
+    requires there { to_signed residue ≡ Gives value }
+    requires back { to_residue value ≡ Gives residue }
 {
-    check::expect(value(signed(rt, residue)) == z);
-    check::expect(residues::value(unsigned(rt, z)) == residue);
+    check::expect(signed(rt, residue) == Ok(value));
+    check::expect(unsigned(rt, value) == Ok(residue));
 }
 
 // A number that is not below p is refused, and so is a signed number outside the range.
 fn not_below_p(rt: HostRuntime, e: u64)
     requires { p ≤ e }
 {
-    check::expect(number(signed(rt, e)) == 7);
+    check::expect(signed(rt, e) == Err(Refusal::NotBelowP));
 }
 
-fn outside(rt: HostRuntime, z: i64)
-    requires { greatest < nat_abs z }
+fn outside(rt: HostRuntime, value: i64)
+    requires { greatest < nat_abs value }
 {
-    check::expect(residues::number(unsigned(rt, z)) == 7);
+    check::expect(unsigned(rt, value) == Err(Refusal::NotBelowP));
 }
 
 fn main(rt: HostRuntime) {

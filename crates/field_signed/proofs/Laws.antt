@@ -8,10 +8,10 @@ use borrow.Author.Tests.{le-leb, lt-leb, leb-true, leb-false, lt-ltb, le-ltb}
 use native.Mathlib.Omega.{arith}
 use Rattle.algebra.specs.Prime.{p}
 use Rattle.refusals.specs.Refusal.{canonical, greatest}
-use Rattle.checked_residue.specs.declared.Residue.TheVariants.{Value as Given, Refused as TurnedBack}
+use Rattle.std.specs.Prelude.{Ok, Err}
 use Rattle.field_signed.specs.Signed.{signed_of, residue_of, InRange}
 use Rattle.field_signed.specs.Answer.{to_signed, to_residue}
-use Rattle.field_signed.specs.declared.Signed.TheVariants.{Value, Refused}
+use Rattle.refusals.specs.declared.Refusal.TheVariants.{NotBelowP}
 
 module _ (r : ℕ) where
   pub as_it_is : r ≤ greatest → signed_of r ≡ pos r
@@ -35,17 +35,17 @@ module _ (r : ℕ) where
       go true e = let h : r ≤ greatest = leb-true _ _ e in rw as_it_is (small h)
       go false e = let h : greatest < r = leb-false _ _ e in rw minus-p (large h)
 
-  pub signed_given : r < p → to_signed r ≡ Value (signed_of r)
+  pub signed_given : r < p → to_signed r ≡ Ok (signed_of r)
   unfolding canonical
   signed_given h = simp (lt-ltb _ _ h)
 
-  pub signed_refused : p ≤ r → to_signed r ≡ Refused 7
+  pub signed_refused : p ≤ r → to_signed r ≡ Err NotBelowP
   unfolding canonical
   signed_refused h = simp (le-ltb _ _ h)
 
 module _ (z : ℤ) where
-  pub residue_given : InRange z → to_residue z ≡ Given (residue_of z)
+  pub residue_given : InRange z → to_residue z ≡ Ok (residue_of z)
   residue_given h = simp (le-ltb _ _ h)
 
-  pub residue_refused : greatest < nat_abs z → to_residue z ≡ TurnedBack 7
+  pub residue_refused : greatest < nat_abs z → to_residue z ≡ Err NotBelowP
   residue_refused h = simp (lt-ltb _ _ h)

@@ -4,6 +4,9 @@
 ghost use Rattle.std.specs.Prelude.{◌≡◌};
 ghost use Rattle.refusals.specs.Refusal.{number, number_of};
 
+use std::error::Error;
+use std::fmt;
+
 #[derive(Clone, Copy, PartialEq, Eq, Debug)]
 pub enum Refusal {
     RowLength = 1,
@@ -33,6 +36,14 @@ impl From<Refusal> for u64 {
         refusal.number()
     }
 }
+
+impl fmt::Display for Refusal {
+    fn fmt<W: fmt::Write>(&self, f: &mut fmt::Formatter<W>) -> fmt::Result {
+        write!(f, "refused {}", self.number())
+    }
+}
+
+impl Error for Refusal {}
 
 // What the C interface answers: the number with which a call is turned back; 0 where it is not.
 pub fn number_of(answer: Result<(), Refusal>) -> u64

@@ -1,23 +1,20 @@
 // CpuStark: the group of this stage that is made of two pieces.
-ghost use Rattle.std.specs.Prelude.{◌≡◌, [], ◌+◌, ◌<◌, ◌≤◌, length};
-ghost use Rattle.algebra.specs.Prime.{p};
+ghost use Rattle.std.specs.Prelude.{◌≡◌, [], length};
 ghost use Rattle.residue.specs.Residues.{residues};
-ghost use Rattle.parts.specs.Parts.{write};
-ghost use Rattle.table.specs.Rows.{Rows};
 ghost use Rattle.table.specs.Cells.{cells};
 ghost use Rattle.table.specs.Entry.{values};
 ghost use Rattle.table.specs.CpuStark.{constraint_reg_consistency};
 
+use cpu_registers::reg_consistency::*;
 use parts::put;
+use residue::Residue;
+use table::Row;
 
-pub fn constraint_reg_consistency(lv: &[u64], nv: &[u64], z_last: u64, out: &mut [u64], at: usize)
-    requires rows { Rows lv.now nv.now }
-    requires z { z_last < p }
-    requires room { at + 10 ≤ length out.old }
-    ensures { out.new ≡ write out.old at (values residues (cells [] lv.now nv.now z_last 0) constraint_reg_consistency) }
+#[tactic(auto, unfolding(algebra::specs::Expr::eval, table::specs::Entry::values, table::specs::Entry::each, table::specs::CpuStark::constraint_reg_consistency, table::specs::CpuStark::dst_reg_changes, table::specs::CpuStark::multi_reg_change, table::specs::CpuStark::fp_consistency))]
+pub fn constraint_reg_consistency(lv: &Row, nv: &Row, z_last: Residue, out: &mut [u64])
+    requires { length out.old ≡ 10 }
+    ensures { out.new ≡ values residues (cells [] lv.now nv.now z_last 0) constraint_reg_consistency }
 {
-    let dst_regs = cpu_registers::reg_consistency::dst_reg_changes(lv, nv, z_last);
-    put(out, at, &dst_regs);
-    let fp = cpu_registers::reg_consistency::fp_consistency(lv, nv, z_last);
-    put(out, at + 9, &fp);
+    put(&mut out[0..9], &dst_reg_changes(lv, nv, z_last));
+    put(&mut out[9..10], &fp_consistency(lv, nv, z_last));
 }

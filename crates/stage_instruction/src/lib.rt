@@ -1,10 +1,8 @@
 // The second stage of the table (F to H), written to a buffer group by group.
 #![tactic(auto)]
 
-ghost use Rattle.std.specs.Prelude.{◌≡◌, ◌≤◌, length};
+ghost use Rattle.std.specs.Prelude.{◌≡◌, length};
 ghost use Rattle.residue.specs.Residues.{residues};
-ghost use Rattle.parts.specs.Parts.{write};
-ghost use Rattle.table.specs.Rows.{Rows, Masks};
 ghost use Rattle.table.specs.Cells.{cells};
 ghost use Rattle.table.specs.Entry.{values};
 ghost use Rattle.stage_instruction.specs.Stage.{instruction};
@@ -12,18 +10,17 @@ ghost use Rattle.stage_instruction.specs.Stage.{instruction};
 use cpu_instruction::encode::constraint_instruction_encode;
 use cpu_stark::*;
 use parts::put;
+use table::Pair;
 
 pub mod cpu_stark;
 
 // Values 83 to 144.
-pub fn eval_instruction(lv: &[u64], nv: &[u64], masks: &[u64], out: &mut [u64])
-    requires rows { Rows lv.now nv.now }
-    requires masks { Masks masks.now }
-    requires room { 144 ≤ length out.old }
-    ensures { out.new ≡ write out.old 82 (values residues (cells masks.now lv.now nv.now 0 0) instruction) }
+#[tactic(auto, unfolding(algebra::specs::Expr::eval, table::specs::Entry::values, table::specs::Entry::each, table::specs::CpuStark::constraint_opcode_selector, table::specs::CpuStark::opcode_products, table::specs::CpuStark::opcode_selectors_binary, table::specs::CpuStark::opcode_sums, table::specs::CpuStark::constraint_operands_mathches_registers, table::specs::CpuStark::selectors_binary, table::specs::CpuStark::operand_sums, table::specs::Entry::plus_all, table::specs::CpuStark::sum_s_op, table::specs::CpuStark::cal_opcode, table::specs::CpuStark::selector_sum, table::specs::CpuStark::selected, table::specs::CpuStark::selected_next, table::specs::CpuStark::plus_shifted, table::specs::CpuStark::instruction, table::specs::CpuStark::constraint_instruction_encode, crate::specs::Stage::instruction))]
+pub fn eval_instruction(pair: &Pair, out: &mut [u64])
+    requires { length out.old ≡ 62 }
+    ensures { out.new ≡ values residues (cells pair.now.masks pair.now.lv pair.now.nv 0 0) instruction }
 {
-    constraint_opcode_selector(lv, masks, out, 82);
-    let instruction_encode = constraint_instruction_encode(lv);
-    put(out, 105, &instruction_encode);
-    constraint_operands_mathches_registers(lv, nv, out, 108);
+    constraint_opcode_selector(&pair.lv, &pair.masks, &mut out[0..23]);
+    put(&mut out[23..26], &constraint_instruction_encode(&pair.lv));
+    constraint_operands_mathches_registers(&pair.lv, &pair.nv, &mut out[26..62]);
 }

@@ -1,0 +1,24 @@
+-- A buffer of 226 places that is filled part by part, from its first place on.
+use Prim.Native.Nat.{ℕ, ◌≤◌}
+use native.Mathlib.Omega.{arith}
+use mathlib.Core.Path.{◌≡◌, refl, sym}
+use mathlib.Core.List.{List, ◌++◌, append_assoc, append-nil}
+use lib.ListN.{length, take, drop, length-append, length-drop, drop_of_length-le}
+use lib.Seq.{take_at}
+use Rattle.std.proofs.lemmas.List.{drop_at}
+
+-- the buffer with n places filled, where k more are written to
+abbrev behind : ℕ → ℕ → List ℕ → List ℕ → List ℕ
+behind n k buffer part = take n buffer ++ (part ++ drop k (drop n buffer))
+
+more : (done part rest : List ℕ) (n k : ℕ) → length done ≡ n → behind n k (done ++ rest) part ≡ (done ++ part) ++ drop k rest
+more done part rest n k e = rw (take_at done rest n e, drop_at done rest n e) (sym (append_assoc done part (drop k rest)))
+
+pub filled : (a b c d out : List ℕ) → length a ≡ 82 → length b ≡ 62 → length c ≡ 15 → length out ≡ 226 →
+    behind 159 67 (behind 144 15 (behind 82 62 (a ++ drop 82 (drop 0 out)) b) c) d ≡ a ++ b ++ c ++ d
+filled a b c d out i j k n =
+    let l : length (a ++ b) ≡ 144 = rw (length-append, i, j) refl in
+    let m : length (a ++ b ++ c) ≡ 159 = rw (length-append (a ++ b) c, l, k) refl in
+    let h : length (drop 15 (drop 62 (drop 82 out))) ≤ 67 = simp length-drop (omega (arith, n)) in
+    rw (more a b (drop 82 out) 82 62 i, more (a ++ b) c (drop 62 (drop 82 out)) 144 15 l, more (a ++ b ++ c) d (drop 15 (drop 62 (drop 82 out))) 159 67 m, drop_of_length-le (drop 15 (drop 62 (drop 82 out))) h)
+    (append-nil (a ++ b ++ c ++ d))
