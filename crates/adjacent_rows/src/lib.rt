@@ -3,11 +3,12 @@
 #![tactic(auto)]
 
 ghost use Rattle.std.specs.Prelude.{◌≡◌};
+ghost use Rattle.refusals.specs.Refusal.{number_of};
 ghost use Rattle.table.specs.CpuStark.{lv_is_ext_inst, lv_ext_length};
 ghost use Rattle.row_values.specs.RowValue.{row_value};
 ghost use Rattle.pair_checks.specs.PairValues.{PairValuesCall};
 
-use checked_residue::Residue;
+use refusals::Refusal;
 
 #[derive(Clone, Copy)]
 pub struct CpuAdjacentRowWrapper<'a, 'b> {
@@ -20,16 +21,16 @@ impl<'a, 'b> CpuAdjacentRowWrapper<'a, 'b> {
     pub fn from_vars(lv: &'a [u64], nv: &'b [u64]) -> CpuAdjacentRowWrapper<'a, 'b>
         ensures { (result.lv ≡ lv.entry) × (result.nv ≡ nv.entry) }
     {
-        CpuAdjacentRowWrapper { lv: lv, nv: nv }
+        CpuAdjacentRowWrapper { lv, nv }
     }
 
-    pub fn lv_is_ext_inst(self) -> Residue
+    pub fn lv_is_ext_inst(self) -> Result<u64, Refusal>
         ensures { result ≡ row_value lv_is_ext_inst self.entry.lv.now }
     {
         row_values::is_ext_inst(self.lv)
     }
 
-    pub fn lv_ext_length(self) -> Residue
+    pub fn lv_ext_length(self) -> Result<u64, Refusal>
         ensures { result ≡ row_value lv_ext_length self.entry.lv.now }
     {
         row_values::ext_length(self.lv)
@@ -42,9 +43,9 @@ impl<'a, 'b> CpuAdjacentRowWrapper<'a, 'b> {
         z_last: u64,
         lagrange_basis_first: u64,
         out: &mut [u64],
-    ) -> u64
+    ) -> Result<(), Refusal>
         ensures { PairValuesCall masks.now self.entry.lv.now self.entry.nv.now z_last lagrange_basis_first
-            out.old result out.new }
+            out.old (number_of result) out.new }
     {
         pair::pair_values(masks, self.lv, self.nv, z_last, lagrange_basis_first, out)
     }
@@ -58,9 +59,9 @@ pub fn adjacent_values(
     z_last: u64,
     lagrange_basis_first: u64,
     out: &mut [u64],
-) -> u64
+) -> Result<(), Refusal>
     ensures { PairValuesCall masks.now lv.now nv.now z_last lagrange_basis_first
-        out.old result out.new }
+        out.old (number_of result) out.new }
 {
     CpuAdjacentRowWrapper::from_vars(lv, nv).pair_values(masks, z_last, lagrange_basis_first, out)
 }

@@ -11,44 +11,42 @@ ghost use Rattle.judge.specs.Verdict.{verdict_of};
 ghost use Rattle.runs.specs.Report.{report_of};
 ghost use Rattle.flat.specs.Flat.{flat_residue, flat_signed, flat_verdict, flat_report};
 
-use flat::{
-    FelmugoReport, FelmugoResidue, FelmugoSigned, FelmugoVerdict, flat_report, flat_residue,
-    flat_signed, flat_verdict,
-};
+use flat::{FelmugoReport, FelmugoResidue, FelmugoSigned, FelmugoVerdict};
+use refusals::number_of;
 
 #[unsafe(no_mangle)]
 pub extern "C" fn felmugo_add(a: u64, b: u64) -> FelmugoResidue
     ensures { result ≡ flat_residue (checked add_p a b) }
 {
-    flat_residue(checked_residue::add(a, b))
+    checked_residue::add(a, b).into()
 }
 
 #[unsafe(no_mangle)]
 pub extern "C" fn felmugo_sub(a: u64, b: u64) -> FelmugoResidue
     ensures { result ≡ flat_residue (checked sub_p a b) }
 {
-    flat_residue(checked_residue::sub(a, b))
+    checked_residue::sub(a, b).into()
 }
 
 #[unsafe(no_mangle)]
 pub extern "C" fn felmugo_mul(a: u64, b: u64) -> FelmugoResidue
     ensures { result ≡ flat_residue (checked mul_p a b) }
 {
-    flat_residue(checked_residue::mul(a, b))
+    checked_residue::mul(a, b).into()
 }
 
 #[unsafe(no_mangle)]
 pub extern "C" fn felmugo_signed(residue: u64) -> FelmugoSigned
     ensures { result ≡ flat_signed (to_signed residue) }
 {
-    flat_signed(field_signed_maps::signed(residue))
+    field_signed_maps::signed(residue).into()
 }
 
 #[unsafe(no_mangle)]
 pub extern "C" fn felmugo_unsigned(value: i64) -> FelmugoResidue
     ensures { result ≡ flat_residue (to_residue value) }
 {
-    flat_residue(field_signed_maps::unsigned(value))
+    field_signed_maps::unsigned(value).into()
 }
 
 #[unsafe(no_mangle)]
@@ -63,7 +61,7 @@ pub extern "C" fn felmugo_pair_values(
     ensures { PairValuesCall masks.now lv.now nv.now z_last lagrange_basis_first
         out.old result out.new }
 {
-    adjacent_rows::adjacent_values(masks, lv, nv, z_last, lagrange_basis_first, out)
+    number_of(adjacent_rows::adjacent_values(masks, lv, nv, z_last, lagrange_basis_first, out))
 }
 
 #[unsafe(no_mangle)]
@@ -79,7 +77,7 @@ pub extern "C" fn felmugo_pair_fold(
     ensures { PairFoldCall masks.now lv.now nv.now z_last lagrange_basis_first
         alphas.now accs.old result accs.new }
 {
-    pair_fold::pair_fold(masks, lv, nv, z_last, lagrange_basis_first, alphas, accs)
+    number_of(pair_fold::pair_fold(masks, lv, nv, z_last, lagrange_basis_first, alphas, accs))
 }
 
 #[unsafe(no_mangle)]
@@ -92,12 +90,12 @@ pub extern "C" fn felmugo_pair_judge(
 ) -> FelmugoVerdict
     ensures { result ≡ flat_verdict (verdict_of masks.now lv.now nv.now first last) }
 {
-    flat_verdict(judge::pair_judge(masks, lv, nv, first, last))
+    judge::pair_judge(masks, lv, nv, first, last).into()
 }
 
 #[unsafe(no_mangle)]
 pub extern "C" fn felmugo_run_report(run: &[u64], masks: &[u64]) -> FelmugoReport
     ensures { result ≡ flat_report (report_of run.now masks.now) }
 {
-    flat_report(runs::run_report(run, masks))
+    runs::run_report(run, masks).into()
 }

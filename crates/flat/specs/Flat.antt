@@ -1,11 +1,12 @@
 -- The answers as flat structs.
-use Rattle.checked_residue.specs.declared.Residue.{Residue}
-use Rattle.checked_residue.specs.Answer.{number, value}
-use Rattle.field_signed.specs.declared.Signed.{Signed}
-use Rattle.field_signed.specs.Answer.{number as signed_number, value as signed_value}
+use Rattle.std.specs.Prelude.{ℕ, ℤ, Result}
+use Rattle.refusals.specs.Refusal.{number_of}
+use Rattle.refusals.specs.declared.Refusal.{Refusal}
+use Rattle.checked_residue.specs.Answer.{value}
+use Rattle.field_signed.specs.Answer.{value as signed_value}
 use Rattle.answers.specs.declared.Verdict.{Verdict}
-use Rattle.answers.specs.Verdict.{number as verdict_number, keeps_of}
-use Rattle.answers.specs.declared.Report.{Report}
+use Rattle.answers.specs.Verdict.{keeps_of}
+use Rattle.answers.specs.Report.{Report}
 use Rattle.answers.specs.Spot.{found, pair_of, value_of}
 use Rattle.flat.specs.declared.FelmugoResidue.{FelmugoResidue}
 use Rattle.flat.specs.declared.FelmugoSigned.{FelmugoSigned}
@@ -13,16 +14,16 @@ use Rattle.flat.specs.declared.FelmugoVerdict.{FelmugoVerdict}
 use Rattle.flat.specs.declared.FelmugoReport.{FelmugoReport}
 
 -- document 01's number and value of a residue entry's answer
-abbrev pub flat_residue : Residue → FelmugoResidue
-flat_residue r = record { number = number r; value = value r }
+abbrev pub flat_residue : Result ℕ Refusal → FelmugoResidue
+flat_residue r = record { number = number_of r; value = value r }
 
 -- document 01's number of an answer of the map to signed numbers, and its value
-abbrev pub flat_signed : Signed → FelmugoSigned
-flat_signed s = record { number = signed_number s; value = signed_value s }
+abbrev pub flat_signed : Result ℤ Refusal → FelmugoSigned
+flat_signed s = record { number = number_of s; value = signed_value s }
 
 -- document 01's number and meaning of the judge's answer
-abbrev pub flat_verdict : Verdict → FelmugoVerdict
-flat_verdict v = record { number = verdict_number v; keeps = keeps_of v }
+abbrev pub flat_verdict : Result Verdict Refusal → FelmugoVerdict
+flat_verdict v = record { number = number_of v; keeps = keeps_of v }
 
 -- a run's report, its spot as three numbers
 abbrev pub flat_report : Report → FelmugoReport

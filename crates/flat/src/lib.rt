@@ -1,12 +1,8 @@
 // Answers as flat structs, for C and Rust.
 #![tactic(auto)]
 
-ghost use Rattle.std.specs.Prelude.{◌≡◌};
-ghost use Rattle.flat.specs.Flat.{flat_residue, flat_signed, flat_verdict, flat_report};
-
 use answers::{Report, Spot, Verdict};
-use checked_residue::Residue;
-use field_signed::Signed;
+use refusals::Refusal;
 
 // A residue, or the number of the refusal with the value 0.
 #[repr(C)]
@@ -16,19 +12,23 @@ pub struct FelmugoResidue {
     pub value: u64,
 }
 
-// The answer of a residue entry as two numbers.
-pub fn flat_residue(r: Residue) -> FelmugoResidue
-    ensures { result ≡ flat_residue r }
-{
-    match r {
-        Residue::Value(v) => FelmugoResidue {
-            number: 0,
-            value: v,
-        },
-        Residue::Refused(n) => FelmugoResidue {
-            number: n,
-            value: 0,
-        },
+impl From<Result<u64, Refusal>> for FelmugoResidue {
+    ghost use Rattle.std.specs.Prelude.{◌≡◌};
+    ghost use Rattle.flat.specs.Flat.{flat_residue};
+
+    ghost from_gives = { λ answer flat. flat ≡ flat_residue answer };
+
+    fn from(answer: Result<u64, Refusal>) -> FelmugoResidue {
+        match answer {
+            Ok(residue) => FelmugoResidue {
+                number: 0,
+                value: residue,
+            },
+            Err(refusal) => FelmugoResidue {
+                number: refusal.number(),
+                value: 0,
+            },
+        }
     }
 }
 
@@ -40,19 +40,23 @@ pub struct FelmugoSigned {
     pub value: i64,
 }
 
-// The answer of the map to signed numbers as two numbers.
-pub fn flat_signed(s: Signed) -> FelmugoSigned
-    ensures { result ≡ flat_signed s }
-{
-    match s {
-        Signed::Value(z) => FelmugoSigned {
-            number: 0,
-            value: z,
-        },
-        Signed::Refused(n) => FelmugoSigned {
-            number: n,
-            value: 0,
-        },
+impl From<Result<i64, Refusal>> for FelmugoSigned {
+    ghost use Rattle.std.specs.Prelude.{◌≡◌};
+    ghost use Rattle.flat.specs.Flat.{flat_signed};
+
+    ghost from_gives = { λ answer flat. flat ≡ flat_signed answer };
+
+    fn from(answer: Result<i64, Refusal>) -> FelmugoSigned {
+        match answer {
+            Ok(signed) => FelmugoSigned {
+                number: 0,
+                value: signed,
+            },
+            Err(refusal) => FelmugoSigned {
+                number: refusal.number(),
+                value: 0,
+            },
+        }
     }
 }
 
@@ -64,23 +68,27 @@ pub struct FelmugoVerdict {
     pub keeps: u64,
 }
 
-// The answer of the judge as two numbers.
-pub fn flat_verdict(v: Verdict) -> FelmugoVerdict
-    ensures { result ≡ flat_verdict v }
-{
-    match v {
-        Verdict::Keeps => FelmugoVerdict {
-            number: 0,
-            keeps: 1,
-        },
-        Verdict::Breaks => FelmugoVerdict {
-            number: 0,
-            keeps: 0,
-        },
-        Verdict::Refused(n) => FelmugoVerdict {
-            number: n,
-            keeps: 0,
-        },
+impl From<Result<Verdict, Refusal>> for FelmugoVerdict {
+    ghost use Rattle.std.specs.Prelude.{◌≡◌};
+    ghost use Rattle.flat.specs.Flat.{flat_verdict};
+
+    ghost from_gives = { λ answer flat. flat ≡ flat_verdict answer };
+
+    fn from(answer: Result<Verdict, Refusal>) -> FelmugoVerdict {
+        match answer {
+            Ok(Verdict::Keeps) => FelmugoVerdict {
+                number: 0,
+                keeps: 1,
+            },
+            Ok(Verdict::Breaks) => FelmugoVerdict {
+                number: 0,
+                keeps: 0,
+            },
+            Err(refusal) => FelmugoVerdict {
+                number: refusal.number(),
+                keeps: 0,
+            },
+        }
     }
 }
 
@@ -96,27 +104,29 @@ pub struct FelmugoReport {
     pub value: u64,
 }
 
-// The report of a run as six numbers.
-pub fn flat_report(r: Report) -> FelmugoReport
-    ensures { result ≡ flat_report r }
-{
-    let spot = r.spot;
-    match spot {
-        Spot::Clean => FelmugoReport {
-            number: r.number,
-            pairs: r.pairs,
-            failing: r.failing,
-            found: 0,
-            pair: 0,
-            value: 0,
-        },
-        Spot::At(pair, value) => FelmugoReport {
-            number: r.number,
-            pairs: r.pairs,
-            failing: r.failing,
-            found: 1,
+impl From<Result<Report, Refusal>> for FelmugoReport {
+    ghost use Rattle.std.specs.Prelude.{◌≡◌};
+    ghost use Rattle.answers.specs.Report.{told};
+    ghost use Rattle.flat.specs.Flat.{flat_report};
+
+    ghost from_gives = { λ answer flat. flat ≡ flat_report (told answer) };
+
+    fn from(answer: Result<Report, Refusal>) -> FelmugoReport {
+        let (number, pairs, failing, spot) = match answer {
+            Ok(report) => (0, report.pairs, report.failing, report.spot),
+            Err(refusal) => (refusal.number(), 0, 0, Spot::Clean),
+        };
+        let (found, pair, value) = match spot {
+            Spot::Clean => (0, 0, 0),
+            Spot::At(pair, value) => (1, pair, value),
+        };
+        FelmugoReport {
+            number,
+            pairs,
+            failing,
+            found,
             pair,
             value,
-        },
+        }
     }
 }

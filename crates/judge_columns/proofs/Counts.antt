@@ -1,21 +1,11 @@
 -- How a loop goes through a run of columns.
 use Prim.Native.Nat.{ℕ, zero, suc, ◌+◌, ◌-◌, ◌<◌}
-use native.Mathlib.Numerals.{add-one}
 use native.Mathlib.Omega.{arith}
-use mathlib.Core.Path.{◌≡◌, refl, sym, ◌∙◌}
-use mathlib.Core.Bool.{Bool, true, false, ◌&&◌, cond}
+use mathlib.Core.Path.{◌≡◌, sym, ◌∙◌}
+use mathlib.Core.Bool.{Bool, true, false, cond}
 use lib.Dec.{eqb}
 use borrow.Author.Tests.{ne_eqb}
 use Rattle.rulebook.specs.Kind.{ones, first_one}
-use Rattle.judge_columns.specs.Group.{all_up_to}
-
-pub all_up_to-none : (t : ℕ → Bool) → true ≡ all_up_to 0 t
-unfolding all_up_to
-all_up_to-none t = refl
-
-pub all_up_to-step : (t : ℕ → Bool) (n : ℕ) (b : Bool) → b ≡ all_up_to n t → (b && t n) ≡ all_up_to (n + 1) t
-unfolding all_up_to
-all_up_to-step t n b e = rw (add-one, e)
 
 -- the numbers g a, g (a + 1), .., n of them, at the place i
 module _ (g : ℕ → ℕ) (a n i : ℕ) (h : i < n) where

@@ -1,3 +1,4 @@
 pub mod Rules
 pub mod Counts
-pub mod Spans
+pub mod Runs
+pub mod Told

@@ -2,14 +2,14 @@
 use mathlib.Core.Path.{◌≡◌, refl, sym, ap, ap₂, ◌∙◌}
 use mathlib.Core.Bool.{Bool, false, not, ◌&&◌, ◌||◌, and-true, and_assoc, or-false, or_assoc, not-not}
 use mathlib.Core.List.{List, [], ◌∷◌, ◌++◌}
-use Prim.Native.Nat.{ℕ, ◌%◌, ◌<◌}
-use native.Mathlib.Nat.{mod-eq_of_lt}
+use Prim.Native.Nat.{ℕ, ◌%◌}
 use lib.ListN.{take, drop, take-append-drop}
 use lib.Dec.{eqb, leb}
 use Rattle.algebra.specs.Prime.{p}
-use Rattle.algebra.specs.Expr.{Expr, eval}
-use Rattle.residue.specs.Residues.{residues}
+use Rattle.algebra.specs.Expr.{Expr, var, con, ◌⊕◌, ◌⊖◌, ◌⊗◌, eval}
+use Rattle.residue.specs.Residues.{residues, add_p, neg_p, sub_p, mul_p}
 use Rattle.table.specs.Cells.{Cell}
+use Rattle.rulebook.specs.Words.{bit}
 use Rattle.rulebook.specs.Rule.{Rule, fact, ◌≐◌, deny, ◌and◌, ◌or◌, ◌⇒◌, Sentence, always, [t], [f], holds, keeps_sentence, keeps_all}
 
 -- b and every one of several, and b or one of several, from the left as the code has them and from the right as the rules have them
@@ -40,13 +40,50 @@ or_left b (c ∷ []) = ap (λ (a : Bool). b || a) (or-false c)
 or_left b (c ∷ (d ∷ ds)) = sym (or_assoc b c (right_or d ds)) ∙ or_left (b || c) (d ∷ ds)
 
 module _ (x : Cell → ℕ) where
-  pub equal_of : (a b : Expr Cell) {u v : ℕ} → eval residues x a ≡ u → eval residues x b ≡ v → u < p → v < p → holds x (a ≐ b) ≡ eqb u v
+  -- an equation and a test of two numbers, which a call answers
+  pub equal_of : (a b : Expr Cell) {u v : ℕ} {r : Bool} → r ≡ eqb (u % p) (v % p) → eval residues x a ≡ u → eval residues x b ≡ v → holds x (a ≐ b) ≡ r
   unfolding holds
-  equal_of a b {u} {v} d e l r = ap₂ (λ (s t : ℕ). eqb s t) (ap (λ (s : ℕ). s % p) d ∙ mod-eq_of_lt l) (ap (λ (s : ℕ). s % p) e ∙ mod-eq_of_lt r)
+  equal_of a b h d e = ap₂ (λ (s t : ℕ). eqb (s % p) (t % p)) d e ∙ sym h
+
+  pub bit_of : (a : Expr Cell) {u : ℕ} {r : Bool} → r ≡ (eqb (u % p) 0 || eqb (u % p) 1) → eval residues x a ≡ u → holds x (bit a) ≡ r
+  unfolding holds eval
+  bit_of a h d = ap (λ (s : ℕ). eqb (s % p) 0 || eqb (s % p) 1) d ∙ sym h
+
+  -- a rule that a call answers as it stands
+  pub told : (r : Rule) {a : Bool} → a ≡ holds x r → holds x r ≡ a
+  told r h = sym h
+
+  -- the value of an expression, from what calls give
+  pub var_of : (c : Cell) {v : ℕ} → v ≡ x c → eval residues x (var c) ≡ v
+  unfolding eval
+  var_of c e = sym e
+
+  pub con_of : (n : ℕ) {v : ℕ} → v ≡ n → eval residues x (con n) ≡ v
+  unfolding eval
+  con_of n e = sym e
+
+  pub sum_of : (a b : Expr Cell) {u v r : ℕ} → r ≡ add_p u v → eval residues x a ≡ u → eval residues x b ≡ v → eval residues x (a ⊕ b) ≡ r
+  unfolding eval
+  sum_of a b h d e = ap₂ add_p d e ∙ sym h
+
+  pub difference_of : (a b : Expr Cell) {u v r : ℕ} → r ≡ sub_p u v → eval residues x a ≡ u → eval residues x b ≡ v → eval residues x (a ⊖ b) ≡ r
+  unfolding eval sub_p
+  difference_of a b h d e = ap₂ (λ (s t : ℕ). add_p s (neg_p t)) d e ∙ sym h
+
+  pub product_of : (a b : Expr Cell) {u v r : ℕ} → r ≡ mul_p u v → eval residues x a ≡ u → eval residues x b ≡ v → eval residues x (a ⊗ b) ≡ r
+  unfolding eval
+  product_of a b h d e = ap₂ mul_p d e ∙ sym h
+
+  pub value_told : (a : Expr Cell) {r : ℕ} → r ≡ eval residues x a → eval residues x a ≡ r
+  value_told a h = sym h
 
   pub fact_of : (b : Bool) {a : Bool} → b ≡ a → holds x (fact b) ≡ a
   unfolding holds
   fact_of b e = e
+
+  pub fact_told : (b : Bool) {a : Bool} → a ≡ b → holds x (fact b) ≡ a
+  unfolding holds
+  fact_told b e = sym e
 
   pub deny_of : (r : Rule) {a : Bool} → holds x r ≡ a → holds x (deny r) ≡ not a
   unfolding holds
@@ -155,17 +192,19 @@ pub both : {a b c d : Bool} → a ≡ c → b ≡ d → (a && b) ≡ (c && d)
 both e f = ap₂ ◌&&◌ e f
 
 -- one of two kinds
-pub among_two : (a b : Bool) → (a || (b || false)) ≡ (a || b)
-among_two a b = ap (λ (c : Bool). a || c) (or-false b)
+pub among_two : {i j a b : Bool} → a ≡ i → b ≡ j → (i || (j || false)) ≡ (a || b)
+among_two e f = ap₂ ◌||◌ (sym e) (or-false _ ∙ sym f)
 
 -- equal numbers pass a test alike
-pub eqb_of : (n : ℕ) {a b : ℕ} → a ≡ b → eqb a n ≡ eqb b n
-eqb_of n e = ap (λ (k : ℕ). eqb k n) e
+pub eqb_of : (n : ℕ) {a b : ℕ} → b ≡ a → eqb a n ≡ eqb b n
+eqb_of n e = ap (λ (k : ℕ). eqb k n) (sym e)
 
-pub leb_of : (n : ℕ) {a b : ℕ} → a ≡ b → leb a n ≡ leb b n
-leb_of n e = ap (λ (k : ℕ). leb k n) e
+pub leb_of : (n : ℕ) {a b : ℕ} → b ≡ a → leb a n ≡ leb b n
+leb_of n e = ap (λ (k : ℕ). leb k n) (sym e)
 
-pub ruleset rules = (always_of, transition_of, first_of, equal_of, deny_of, and_of, or_of, unless_of, implies_of, fact_of, among_two, both)
+pub ruleset exprs = (value_told, sum_of, difference_of, product_of, var_of, con_of)
+
+pub ruleset rules = (always_of, transition_of, first_of, told, bit_of, equal_of, deny_of, and_of, or_of, unless_of, implies_of, fact_told, fact_of, among_two, both)
 
 -- for rules with more than two parts, for a choice among several, and for counts
 pub ruleset chains = (and3_of, and4_of, and5_of, and6_of)
@@ -173,3 +212,6 @@ pub ruleset chains = (and3_of, and4_of, and5_of, and6_of)
 pub ruleset choices = (some3_of, some5_of, some6_of)
 
 pub ruleset counts = (eqb_of, leb_of)
+
+-- how the code and the rulebook group tests
+pub ruleset bools = (and_assoc, and-true, or_assoc, or-false, not-not)

@@ -27,7 +27,7 @@ module _ {A B : Type 0} (f g : A → B) where
   agree k (c ∷ cs) d h e = agree_cond (eqb k c.0) c.1 (choose k cs d) h.0 (agree k cs d h.1 e)
 
 module _ (m l n : List ℕ) (z f k : ℕ) where
-  pub length-same : eval residues (cells m l n z f) (ext_length k) ≡ eval residues (cells [] l [] 0 0) (ext_length k)
+  length-same : eval residues (cells m l n z f) (ext_length k) ≡ eval residues (cells [] l [] 0 0) (ext_length k)
   unfolding eval
   length-same =
       agree (eval residues (cells m l n z f)) (eval residues (cells [] l [] 0 0)) k
@@ -40,6 +40,9 @@ module _ (m l n : List ℕ) (z f k : ℕ) where
       ∷ [])
       (con 0) (refl, (refl, (refl, (refl, (refl, (refl, tt)))))) refl
 
-module _ (m l n : List ℕ) (z f k : ℕ) where
-  pub length-masks : eval residues (cells m l n z f) (ext_length k) ≡ eval residues (cells [] l n 0 0) (ext_length k)
-  length-masks = length-same m l n z f k ∙ sym (length-same [] l n 0 0 k)
+pub length_told : (m l n : List ℕ) (z f k : ℕ) {v : ℕ} → v ≡ eval residues (cells [] l [] 0 0) (ext_length k) →
+    eval residues (cells m l n z f) (ext_length k) ≡ v
+length_told m l n z f k h = length-same m l n z f k ∙ sym h
+
+pub length_masks : (m l n : List ℕ) (z f k : ℕ) → eval residues (cells m l n z f) (ext_length k) ≡ eval residues (cells [] l n 0 0) (ext_length k)
+length_masks m l n z f k = length-same m l n z f k ∙ sym (length-same [] l n 0 0 k)

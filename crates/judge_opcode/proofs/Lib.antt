@@ -1,2 +1,1 @@
-pub mod Opcode
-pub mod Picked
+pub mod Unread

@@ -1,3 +1,2 @@
-pub mod Cases
 pub mod Unread
-pub mod Picked
+pub mod Told

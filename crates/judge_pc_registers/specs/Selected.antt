@@ -1,8 +1,7 @@
 -- What the selected instruction number picks, in the words of the rulebook.
-use Rattle.std.specs.Prelude.{◌≡◌, List, [], ◌∷◌, ℕ, ◌<◌, get_or, eqb}
+use Rattle.std.specs.Prelude.{◌≡◌, List, [], ◌∷◌, ℕ, ◌%◌, get_or, eqb}
 use Rattle.algebra.specs.Prime.{p}
 use Rattle.table.specs.Cells.{cells}
-use Rattle.table.specs.Rows.{Row}
 use Rattle.table.specs.Columns.{COL-PC}
 use Rattle.rulebook.specs.Rule.{Rule, ◌and◌, ◌or◌, holds}
 use Rattle.rulebook.specs.Kind.{RET, END, PSDN, SLOAD, CALL-SC}
@@ -11,8 +10,7 @@ use Rattle.rulebook.specs.Rulebook.{goes_on}
 
 -- r is where the program counter goes from a row of kind k: PC' of a next row that keeps the rule
 pub record GoesTo (row : List ℕ) (k r : ℕ) : Type 0 where
-  pub goes : (next : List ℕ) → Row next → holds (cells [] row next 0 0) (goes_on k) ≡ eqb (get_or next COL-PC 0) r
-  pub below : r < p
+  pub goes : (next : List ℕ) → holds (cells [] row next 0 0) (goes_on k) ≡ eqb (get_or next COL-PC 0 % p) (r % p)
 
 -- where registers 0 to 8 are free: "unless SLOAD, PSDN, CALL_SC with diff, or END main"
 abbrev pub registers_free : ℕ → Rule

@@ -1,12 +1,15 @@
 // The entry for the values of a pair of rows.
 #![tactic(auto)]
 
+ghost use Rattle.refusals.specs.Refusal.{number_of};
 ghost use Rattle.pair_checks.specs.PairValues.{PairValuesCall};
 
-use pair_checks::refusal;
+use pair_checks::accept;
+use refusals::Refusal;
+use table::NUM_VALUES;
 
-// Writes the 226 values of a pair of rows to the first places of `out`, each with its weight applied. The
-// answer is 0, or the number with which the call is turned back.
+// Writes the 226 values of a pair of rows to the first places of `out`, each with its weight applied.
+#[tactic(auto, unfolding(pair_checks::specs::PairValues::pair_values_buffer))]
 pub fn pair_values(
     masks: &[u64],
     lv: &[u64],
@@ -14,14 +17,11 @@ pub fn pair_values(
     z_last: u64,
     lagrange_basis_first: u64,
     out: &mut [u64],
-) -> u64
+) -> Result<(), Refusal>
     ensures { PairValuesCall masks.now lv.now nv.now z_last lagrange_basis_first
-        out.old result out.new }
+        out.old (number_of result) out.new }
 {
-    let number = refusal(masks, lv, nv, z_last, lagrange_basis_first, out.len());
-    if number != 0 {
-        return number;
-    }
-    cpu::stages::eval_packed_generic(lv, nv, masks, z_last, lagrange_basis_first, out);
-    0
+    let pair = accept(masks, lv, nv, z_last, lagrange_basis_first, out.len())?;
+    cpu::stages::eval_packed_generic(&pair, &mut out[..NUM_VALUES]);
+    Ok(())
 }

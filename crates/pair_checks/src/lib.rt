@@ -1,7 +1,7 @@
 // The tests that a call for the values of a pair of rows has to pass.
 #![tactic(auto)]
 
-ghost use Rattle.std.specs.Prelude.{◌≡◌, IfOk};
+ghost use Rattle.std.specs.Prelude.{◌≡◌, ◌≤◌, IfOk, OnOk};
 ghost use Rattle.refusals.specs.Refusal.{number_of};
 ghost use Rattle.pair_checks.specs.PairValues.{pair_values_refusal};
 
@@ -20,6 +20,7 @@ pub fn accept<'a>(
 ) -> Result<Pair<'a>, Refusal>
     ensures number { number_of result ≡ pair_values_refusal masks.now lv.now nv.now z_last lagrange_basis_first room }
     ensures value { IfOk result (λ pair. pair ≡ record { masks = masks.now; lv = lv.now; nv = nv.now; z_last = z_last; lagrange_basis_first = lagrange_basis_first }) }
+    ensures room { OnOk result (226 ≤ room) }
 {
     checks::sizes(masks, lv, nv)?;
     if room < NUM_VALUES {

@@ -9,6 +9,7 @@ use lib.ListN.{length, get_or, take, drop, drop_of_length-le, take-append-drop}
 use lib.Seq.{drop-cons}
 use lib.Dec.{T, eqb, ltb, ltb→lt, lit<}
 use borrow.Author.Tests.{eqb-true, eqb-false, eq-eqb, ne_eqb, not-false, ltb-true}
+use Rattle.std.specs.Prelude.{Ok, Err}
 use Rattle.std.specs.List.{fold, list_any}
 use Rattle.algebra.specs.Prime.{p}
 use Rattle.algebra.proofs.Slices.{to_end}
@@ -116,6 +117,8 @@ canonical-below (x ∷ xs) e (suc i) = canonical-below xs (both_true (ltb x p) (
 -- for an attribute, which names no lemma with a dash
 pub ruleset below_p = (canonical-below)
 
+pub ruleset appended = (canonical-append)
+
 eqb_comm : (a b : ℕ) → eqb a b ≡ eqb b a
 eqb_comm a b = go (eqb a b) refl
   where
@@ -194,3 +197,39 @@ unfolding distinct
 distinct_first [] h = absurd (omega arith)
 distinct_first (x ∷ l) h =
     rw (to_end 1 (x ∷ l)) (refl, ap (λ (b : Bool). not b && distinct l) (sym (member_any x l)))
+
+-- every number is one of the table's: computed, and so shown by `tt`
+abbrev pub listed : List Condition → Bool
+listed [] = true
+listed (c ∷ cs) = ltb c.number 9 && listed cs
+
+lowest-listed : (cs : List Condition) → T (listed cs) → lowest cs < 9
+lowest-listed [] t = omega arith
+lowest-listed (c ∷ cs) t =
+    let s = and_T (ltb c.number 9) (listed cs) t in
+    go c.holds (ltb→lt c.number 9 s.0) (lowest-listed cs s.1)
+  where
+    go : (b : Bool) {n m : ℕ} → n < 9 → m < 9 → cond b n m < 9
+    go true h k = h
+    go false h k = k
+
+number-refusal : (n : ℕ) → 0 < n → n < 9 → number (refusal n) ≡ n
+number-refusal zero h k = absurd (omega arith)
+number-refusal (suc zero) h k = refl
+number-refusal (suc (suc zero)) h k = refl
+number-refusal (suc (suc (suc zero))) h k = refl
+number-refusal (suc (suc (suc (suc zero)))) h k = refl
+number-refusal (suc (suc (suc (suc (suc zero))))) h k = refl
+number-refusal (suc (suc (suc (suc (suc (suc zero)))))) h k = refl
+number-refusal (suc (suc (suc (suc (suc (suc (suc zero))))))) h k = refl
+number-refusal (suc (suc (suc (suc (suc (suc (suc (suc zero)))))))) h k = refl
+number-refusal (suc (suc (suc (suc (suc (suc (suc (suc (suc n))))))))) h k = absurd (omega arith)
+
+-- the number of an answer that is refused with a number of the table, or given
+module _ {A : Type 0} (a : A) where
+  number_of-small : (n : ℕ) → n < 9 → number_of (unless n refused (Ok a)) ≡ n
+  number_of-small zero h = refl
+  number_of-small (suc n) h = number-refusal (suc n) (omega arith) h
+
+  pub number_of-unless : (cs : List Condition) → T (listed cs) → number_of (unless (lowest cs) refused (Ok a)) ≡ lowest cs
+  number_of-unless cs t = number_of-small (lowest cs) (lowest-listed cs t)

@@ -1,46 +1,40 @@
 // Values of one row, taken plainly: the core under the record of adjacent rows.
 #![tactic(auto)]
 
-ghost use Rattle.std.specs.Prelude.{◌≡◌};
-ghost use Rattle.refusals.specs.Refusal.{lowest};
+ghost use Rattle.std.specs.Prelude.{◌≡◌, IfOk};
+ghost use Rattle.refusals.specs.Refusal.{lowest, number_of};
 ghost use Rattle.table.specs.CpuStark.{lv_is_ext_inst, lv_ext_length};
 ghost use Rattle.row_values.specs.RowValue.{row_conditions, row_value};
 
-use checked_residue::Residue;
-use refusals::{ROW_CONTENTS, ROW_LENGTH};
+use refusals::Refusal;
+use table::Row;
 use table::columns::NUM_CPU_COLS;
 
-// The number with which a row is turned back; 0 where it is not.
-fn refusal(row: &[u64]) -> u64
-    ensures { result ≡ lowest (row_conditions row.now) }
+// The row as a type, or why it is turned back.
+fn accept(row: &[u64]) -> Result<Row, Refusal>
+    ensures number { number_of result ≡ lowest (row_conditions row.now) }
+    ensures value { IfOk result (λ accepted. accepted ≡ row.now) }
 {
     if row.len() != NUM_CPU_COLS {
-        return ROW_LENGTH;
+        return Err(Refusal::RowLength);
     }
-    if !checks::canonical(row) {
-        return ROW_CONTENTS;
-    }
-    0
+    checks::row(row)
 }
 
 // Whether the row's instruction has ext lines.
-pub fn is_ext_inst(row: &[u64]) -> Residue
+#[tactic(auto, unfolding(crate::specs::RowValue::row_value))]
+pub fn is_ext_inst(row: &[u64]) -> Result<u64, Refusal>
     ensures { result ≡ row_value lv_is_ext_inst row.now }
 {
-    let number = refusal(row);
-    if number != 0 {
-        return Residue::Refused(number);
-    }
-    Residue::Value(cpu_wrapper::wrapper::is_ext_inst(row))
+    let row = accept(row)?;
+    Ok(cpu_wrapper::wrapper::is_ext_inst(&row).value())
 }
 
 // How many ext lines the row's instruction has.
-pub fn ext_length(row: &[u64]) -> Residue
+#[tactic(auto, unfolding(crate::specs::RowValue::row_value))]
+pub fn ext_length(row: &[u64]) -> Result<u64, Refusal>
     ensures { result ≡ row_value lv_ext_length row.now }
 {
-    let number = refusal(row);
-    if number != 0 {
-        return Residue::Refused(number);
-    }
-    Residue::Value(cpu_wrapper::wrapper::lv_ext_length(row))
+    let row = accept(row)?;
+    Ok(cpu_wrapper::wrapper::lv_ext_length(&row).value())
 }

@@ -1,29 +1,24 @@
--- The parts of a lent run that are handed on are its rows, and as the core asks.
-use mathlib.Core.Path.{◌≡◌, ◌∙◌}
+-- The rows of a run that is not turned back, and its masks, are as their types ask.
+use mathlib.Core.Path.{◌≡◌}
 use mathlib.Core.Bool.{false, not}
 use mathlib.Core.List.{List, [], ◌∷◌}
 use Prim.Native.Nat.{ℕ, ◌+◌, ◌-◌, ◌*◌, ◌%◌, ◌≤◌, ◌<◌}
 use native.Mathlib.Omega.{arith}
 use lib.ListN.{length, take, drop, length-take, length-drop}
-use lib.Dec.{eqb, ltb, lit<}
-use borrow.Author.Tests.{eq-eqb, ne_eqb, eqb-false, not-false}
-use Rattle.algebra.specs.Prime.{p}
+use lib.Dec.{eqb, ltb}
+use borrow.Author.Tests.{eqb-false, not-false}
 use Rattle.refusals.specs.Refusal.{run_length, mask_count, mask_contents, row_contents}
 use Rattle.refusals.proofs.Laws.{Clear, clear, length-is, none_true, canonical-part, canonical-below}
-use Rattle.table.specs.Rows.{Row, Rows, Masks}
-use Rattle.table.specs.Table.{pair_values}
+use Rattle.table.specs.Rows.{Row, Masks}
 use Rattle.checks.proofs.Laws.{accepted-masks}
 use Rattle.rulebook.specs.Plain.{Accepted}
-use Rattle.rulebook.proofs.Tests.{by_cond}
-use Rattle.run_pairs.specs.Run.{row_at, row_count, first_weight, pair_at, run_refusal}
+use Rattle.run_pairs.specs.Run.{row_at, row_count, run_refusal}
 
--- `&run[k..k + 94]`
-abbrev part : List ℕ → ℕ → List ℕ
-part run k = take (k + 94 - k) (drop k run)
-
-part-is : (run : List ℕ) (k : ℕ) → part run k ≡ take 94 (drop k run)
-part-is run k =
-    let e : k + 94 - k ≡ 94 = omega arith in
+-- `&run[94 * i..94 * i + 94]`
+pub row_part : (run : List ℕ) (i : ℕ) → take (94 * i + 94 - 94 * i) (drop (94 * i) run) ≡ row_at run i
+unfolding row_at
+row_part run i =
+    let e : 94 * i + 94 - 94 * i ≡ 94 = omega arith in
     rw e
 
 -- a run that is not turned back
@@ -51,7 +46,7 @@ module _ (run masks : List ℕ) (e : run_refusal run masks ≡ 0) where
       let k = none_true _ _ clears.1.1.0 in
       record { size = length-is _ _ clears.1.0; below = not-false _ k.0; differ = not-false _ k.1 }
 
-  masks-are : Masks masks
+  pub masks-are : Masks masks
   masks-are = accepted-masks masks accepted.size clears.1.1.0
 
   -- a part of 94 values is a row
@@ -61,47 +56,6 @@ module _ (run masks : List ℕ) (e : run_refusal run masks ≡ 0) where
     below = canonical-below _ (canonical-part k 94 run (not-false _ clears.1.1.1.0));
   }
 
-  part-row : (k : ℕ) → k + 94 ≤ length run → Row (part run k)
-  part-row k h = rw part-is (row_from k h)
-
   pub row_is : (i : ℕ) → i < row_count run → Row (row_at run i)
   unfolding row_at
   row_is i h = row_from (94 * i) (omega (arith, run_is))
-
-  -- what the core asks at pair i of n rows: of the last pair, and of another
-  module _ (n i w : ℕ) (s : n ≡ row_count run) (h : i < n) (f : w ≡ first_weight i) where
-    weight : w < p
-    weight = rw f (by_cond (λ a. a < p) (eqb i 0) 1 0 (λ _. lit< tt) (lit< tt))
-
-    pub last_asks : Rows (part run (94 * i)) (take 94 run) × (Masks masks × ((0 < p) × (w < p)))
-    last_asks = (
-      record { local = part-row (94 * i) (omega (arith, run_is)); next = row_from 0 (omega (arith, run_is)) },
-      (masks-are, (lit< tt, weight)),
-    )
-
-    pub next_asks : (i + 1 ≡ n → ⊥) → Rows (part run (94 * i)) (part run (94 * i + 94)) × (Masks masks × ((1 < p) × (w < p)))
-    next_asks q =
-        let m : i + 1 < n = omega arith in (
-          record { local = part-row (94 * i) (omega (arith, run_is)); next = part-row (94 * i + 94) (omega (arith, run_is)) },
-          (masks-are, (lit< tt, weight)),
-        )
-
--- the values of the parts are those of the pair
-module _ (run masks : List ℕ) (n i w : ℕ) (f : w ≡ first_weight i) where
-  row-part : part run (94 * i) ≡ row_at run i
-  unfolding row_at
-  row-part = part-is run (94 * i)
-
-  row_next : part run (94 * i + 94) ≡ row_at run (i + 1)
-  unfolding row_at
-  row_next =
-      let d : 94 * i + 94 ≡ 94 * (i + 1) = omega arith in
-      part-is run (94 * i + 94) ∙ rw d
-
-  pub pair-last : i + 1 ≡ n → pair_values masks (part run (94 * i)) (take 94 run) 0 w ≡ pair_at run masks n i
-  unfolding pair_at row_at
-  pair-last e = simp (eq-eqb _ _ e) (rw (f, row-part))
-
-  pub pair-next : (i + 1 ≡ n → ⊥) → pair_values masks (part run (94 * i)) (part run (94 * i + 94)) 1 w ≡ pair_at run masks n i
-  unfolding pair_at
-  pair-next e = simp (ne_eqb _ _ e) (rw (f, row-part, row_next))

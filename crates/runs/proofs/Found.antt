@@ -11,7 +11,7 @@ use borrow.Author.Tests.{eq-eqb, ne_eqb, eqb-true, eqb-false}
 use Rattle.refusals.proofs.Laws.{refused_unless, given_unless}
 use Rattle.tally.specs.Tally.{nonzeros, first_from}
 use Rattle.run_pairs.specs.Run.{row_count, pair_at, tabulate, pairs_of, run_refusal}
-use Rattle.answers.specs.declared.Report.{Report}
+use Rattle.answers.specs.Report.{Report}
 use Rattle.answers.specs.declared.Spot.{Spot}
 use Rattle.answers.specs.declared.Spot.TheVariants.{Clean, At}
 use Rattle.runs.specs.Report.{failing, spot_from, reported, zero_report, report_of}

@@ -18,7 +18,7 @@ use Rattle.tally.specs.Tally.{nonzeros}
 use Rattle.tally.proofs.Laws.{zeros_of_none, none_of_zeros}
 use Rattle.run_pairs.specs.Run.{row_count, is_last_pair, next_row_index, pair_at, pairs_of, run_refusal}
 use Rattle.run_pairs.proofs.Parts.{accepted, row_is}
-use Rattle.answers.specs.declared.Report.{Report}
+use Rattle.answers.specs.Report.{Report}
 use Rattle.answers.specs.declared.Spot.TheVariants.{Clean, At}
 use Rattle.runs.specs.Report.{reported, zero_report, report_of}
 use Rattle.runs.specs.RunRules.{PlainAt, KeepsAt, EveryPair}

@@ -1,6 +1,6 @@
 -- "The report has pairs, failing pairs, and the first failing spot" (document 01).
 use Rattle.std.specs.Prelude.{cond, List, [], ◌∷◌, ℕ, suc, length, eqb}
-use Rattle.answers.specs.declared.Report.{Report}
+use Rattle.answers.specs.Report.{Report}
 use Rattle.answers.specs.declared.Spot.{Spot}
 use Rattle.answers.specs.declared.Spot.TheVariants.{Clean, At}
 use Rattle.refusals.specs.Refusal.{unless}

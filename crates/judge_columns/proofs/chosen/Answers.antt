@@ -1,16 +1,21 @@
 -- `judge_columns::chosen` meets its contract.
-use mathlib.Core.Path.{◌≡◌}
-use native.Mathlib.Omega.{arith}
-use Rattle.judge_columns.proofs.Counts.{all_up_to-none, all_up_to-step}
+use Rattle.std.proofs.Common.{◌&&◌, ◌||◌, ◌+◌, ◌%◌, not, [], true, rules, tests, arith, ◌∙◌, refl, get_or, eqb}
+use Rattle.std.proofs.lemmas.Iterator.{YieldsList-from_range}
+use Rattle.std.proofs.lemmas.Iterator.Consumers.{fold_from_yields_List}
+use Rattle.algebra.specs.Prime.{p}
+use Rattle.algebra.specs.Expr.{eval}
+use Rattle.table.specs.Cells.{cells, lv, nv}
+use Rattle.rulebook.specs.Rule.{◌≐◌, ◌⇒◌, holds}
+use Rattle.rulebook.specs.Words.{on}
+use Rattle.judge_columns.proofs.Runs.{every_run, chosen_current}
 use Rattle.judge_columns.proofs.chosen.Goals as goal
 
-pub loop-i-init : goal.loop-i-init
-loop-i-init c = (omega arith, all_up_to-none _)
+pub returns-clause-next : goal.returns-clause-next
+unfolding holds eval
+returns-clause-next c =
+    fold_from_yields_List _ (λ all i. all && (not (eqb (get_or c.args.row.now (c.args.s + i) 0 % p) 1) || eqb (get_or c.args.regs.now (16 + i) 0 % p) (get_or c.args.row.now c.args.o 0 % p))) true _ c.fold.ensures.ran (YieldsList-from_range 0 10 10 refl (omega arith)) (λ a x b q k. search (rules, tests))
+    ∙ every_run (cells [] c.args.row.now c.args.regs.now 0 0) (λ i. on (c.args.s + i) ⇒ nv (16 + i) ≐ lv c.args.o) _ (λ i. refl) 0 10
 
-pub loop-i-preserved : goal.loop-i-preserved
-loop-i-preserved c = (omega arith, all_up_to-step _ _ _ c.loop-i.invariant.1)
-
-pub returns : goal.returns
-returns c =
-    let e : c.loop-i.i ≡ 10 = omega arith in
-    rw e at c.loop-i.invariant.1
+pub returns-clause-current : goal.returns-clause-current
+returns-clause-current c = λ e.
+    (rw e at (returns-clause-next c)) ∙ chosen_current c.args.row.now c.args.s c.args.o

@@ -1,16 +1,16 @@
 -- `judge_columns::same` meets its contract.
-use mathlib.Core.Path.{◌≡◌}
-use native.Mathlib.Omega.{arith}
-use Rattle.judge_columns.proofs.Counts.{all_up_to-none, all_up_to-step}
+use Rattle.std.proofs.Common.{◌&&◌, ◌+◌, ◌%◌, [], true, rules, tests, arith, ◌∙◌, refl, get_or, eqb}
+use Rattle.std.proofs.lemmas.Iterator.{YieldsList-from_range}
+use Rattle.std.proofs.lemmas.Iterator.Consumers.{fold_from_yields_List}
+use Rattle.algebra.specs.Prime.{p}
+use Rattle.algebra.specs.Expr.{eval}
+use Rattle.table.specs.Cells.{cells, lv, nv}
+use Rattle.rulebook.specs.Rule.{◌≐◌, holds}
+use Rattle.judge_columns.proofs.Runs.{every_run}
 use Rattle.judge_columns.proofs.same.Goals as goal
 
-pub loop-t-init : goal.loop-t-init
-loop-t-init c = (omega arith, all_up_to-none _)
-
-pub loop-t-preserved : goal.loop-t-preserved
-loop-t-preserved c = (omega arith, all_up_to-step _ _ _ c.loop-t.invariant.1)
-
 pub returns : goal.returns
+unfolding holds eval
 returns c =
-    let e : c.loop-t.t ≡ c.args.n = omega arith in
-    rw e at c.loop-t.invariant.1
+    fold_from_yields_List _ (λ all t. all && eqb (get_or c.args.nv.now (c.args.i + t) 0 % p) (get_or c.args.lv.now (c.args.j + t) 0 % p)) true _ c.fold.ensures.ran (YieldsList-from_range 0 c.args.n c.args.n refl (omega arith)) (λ a x b q k. search (rules, tests))
+    ∙ every_run (cells [] c.args.lv.now c.args.nv.now 0 0) (λ t. nv (c.args.i + t) ≐ lv (c.args.j + t)) _ (λ i. refl) 0 c.args.n

@@ -1,16 +1,17 @@
 -- `judge_columns::zeros` meets its contract.
-use mathlib.Core.Path.{◌≡◌}
-use native.Mathlib.Omega.{arith}
-use Rattle.judge_columns.proofs.Counts.{all_up_to-none, all_up_to-step}
+use Rattle.std.proofs.Common.{◌&&◌, ◌+◌, ◌%◌, [], true, rules, tests, arith, ◌∙◌, refl, get_or, eqb}
+use Rattle.std.proofs.lemmas.Iterator.{YieldsList-from_range}
+use Rattle.std.proofs.lemmas.Iterator.Consumers.{fold_from_yields_List}
+use Rattle.algebra.specs.Prime.{p}
+use Rattle.algebra.specs.Expr.{eval}
+use Rattle.table.specs.Cells.{cells}
+use Rattle.rulebook.specs.Rule.{holds}
+use Rattle.rulebook.specs.Words.{off}
+use Rattle.judge_columns.proofs.Runs.{every_run}
 use Rattle.judge_columns.proofs.zeros.Goals as goal
 
-pub loop-i-init : goal.loop-i-init
-loop-i-init c = (omega arith, all_up_to-none _)
-
-pub loop-i-preserved : goal.loop-i-preserved
-loop-i-preserved c = (omega arith, all_up_to-step _ _ _ c.loop-i.invariant.1)
-
 pub returns : goal.returns
+unfolding holds eval
 returns c =
-    let e : c.loop-i.i ≡ c.args.n = omega arith in
-    rw e at c.loop-i.invariant.1
+    fold_from_yields_List _ (λ all j. all && eqb (get_or c.args.row.now j 0 % p) 0) true _ c.fold.ensures.ran (YieldsList-from_range c.args.start (c.args.start + c.args.n) c.args.n refl (omega arith)) (λ a x b q k. search (rules, tests))
+    ∙ every_run (cells [] c.args.row.now [] 0 0) off _ (λ i. refl) c.args.start c.args.n

@@ -1,0 +1,18 @@
+-- `judge_environment::keeps_ext_lines` meets its contract.
+use mathlib.Core.Path.{sym, ◌∙◌}
+use Rattle.rulebook.specs.Rulebook.{rules_D}
+use Rattle.judge_columns.proofs.Rules.{keeps, rules, chains, exprs}
+use Rattle.judge_columns.proofs.Told.{tells}
+use Rattle.judge_kinds.proofs.Unread.{length_told}
+use Rattle.judge_environment.proofs.keeps_ext_lines.Goals as goal
+
+pub returns : goal.returns
+unfolding rules_D
+returns c =
+    sym (keeps _ _ _ _ _ ∙
+    search
+    (c.is_ext_kind-ext_kind.ensures, c.off-main.ensures, c.grows-cnt_grows.ensures, c.kept.ensures,
+    c.same.ensures, c.kept-2.ensures, c.off.ensures, c.at.ensures, c.ext_length.ensures,
+    c.equal.ensures, c.off-2.ensures, c.next_is_ext_kind.ensures.row, c.on.ensures, c.on-2.ensures,
+    length_told, tells, rules, chains, exprs)
+    depth 100 fits 100000)

@@ -1,0 +1,24 @@
+// A pair of rows as the rules are asked of it.
+#![tactic(auto, unfolding(crate::specs::Kind::number_of_kind))]
+
+ghost use Rattle.std.specs.Prelude.{◌≡◌, eqb};
+ghost use Rattle.judge_kinds.specs.Kind.{kind_number, number_of_kind};
+
+use super::kinds::Kind;
+use table::Row;
+
+// The current row, the next row, and the kind of the current row's instruction.
+#[derive(Clone, Copy)]
+pub struct Step<'a> {
+    pub lv: &'a Row<'a>,
+    pub nv: &'a Row<'a>,
+    pub kind: Option<Kind>,
+}
+
+impl<'a> Step<'a> {
+    pub fn is(&self, kind: Kind) -> bool
+        ensures { result ≡ eqb (number_of_kind self.now.kind) (kind_number kind) }
+    {
+        self.kind == Some(kind)
+    }
+}
