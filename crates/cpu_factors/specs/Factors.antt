@@ -1,5 +1,4 @@
 -- Products of a row's selectors and flags that several constraints of tape.rs and call_sc.rs begin with.
-use Rattle.std.specs.Prelude.{[]}
 use Rattle.algebra.specs.Expr.{Expr, ◌⊕◌, ◌⊖◌, ◌⊗◌}
 use Rattle.table.specs.Columns.{COL-IS-EXT-LINE, COL-S-TLOAD, COL-S-TSTORE, COL-S-CALL-SC, COL-S-END}
 use Rattle.table.specs.Cells.{Cell, lv}
