@@ -128,9 +128,9 @@ found-report run masks i count spot k h =
 
 -- the report of a run that is turned back, and of one that is not
 module _ (run masks : List ℕ) where
-  pub report_refused : (n : ℕ) → n ≡ run_refusal run masks → (n ≡ 0 → ⊥) → zero_report n ≡ report_of run masks
+  pub report_refused : (run_refusal run masks ≡ 0 → ⊥) → report_of run masks ≡ zero_report (run_refusal run masks)
   unfolding report_of
-  report_refused n = refused_unless zero_report (reported (pairs_of run masks)) n (run_refusal run masks)
+  report_refused h = sym (refused_unless zero_report (reported (pairs_of run masks)) _ (run_refusal run masks) refl h)
 
   pub report_done : run_refusal run masks ≡ 0 → report_of run masks ≡ reported (pairs_of run masks)
   unfolding report_of

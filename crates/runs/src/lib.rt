@@ -35,6 +35,7 @@ fn walk(run: Run) -> Report
 }
 
 // The report of a run, or why it is turned back.
+#[tactic(auto, using(crate::proofs::Found::report_refused, crate::proofs::Found::report_done, refusals::proofs::Laws::number_positive))]
 pub fn run_report(run: &[u64], masks: &[u64]) -> Result<Report, Refusal>
     ensures { told result ≡ report_of run.now masks.now }
 {
