@@ -1,20 +1,13 @@
 -- What a test that a branch asked for tells of the definition that it equals.
 use mathlib.Core.Path.{◌≡◌, sym, ap, ◌∙◌}
-use mathlib.Core.Bool.{Bool, true, false, not, ◌&&◌}
+use mathlib.Core.Bool.{Bool, true, false, not}
 use mathlib.Core.List.{List, [], ◌++◌}
-use Prim.Native.Nat.{ℕ, ◌+◌, ◌≤◌}
-use native.Mathlib.Omega.{arith}
-use lib.ListN.{length, get_or, drop}
-use lib.Dec.{ltb}
+use Prim.Native.Nat.{ℕ, ◌+◌}
+use lib.ListN.{length}
 use borrow.Author.Tests.{not-false}
-use Rattle.algebra.specs.Prime.{p}
 use Rattle.refusals.specs.Refusal.{Condition, lowest, mask_contents, row_contents, sizes, contents, canonical}
-use Rattle.refusals.proofs.Laws.{Clear, clear, clear_front, clear_back, behind, length-is, canonical-below, none_true, canonical-at}
+use Rattle.refusals.proofs.Laws.{Clear, clear, clear_front, clear_back, behind, length-is, canonical-below, none_true}
 use Rattle.table.specs.Rows.{Row, Rows, Masks}
-
--- of a test r of the definition b, denied by `!`
-pub denied : {r b : Bool} → r ≡ b → r ≡ false → not b ≡ true
-denied e t = ap not (sym e ∙ t)
 
 pub kept : {r b : Bool} → r ≡ b → r ≡ true → not b ≡ false
 kept e t = ap not (sym e ∙ t)
@@ -58,15 +51,3 @@ module _ (masks lv nv : List ℕ) (more rest : List Condition) (k : Clear (sizes
 
   pub call_masks : Masks masks
   call_masks = masks-are masks lv nv sizes_clear contents_clear
-
--- four numbers, and those behind them
-pub canonical_four : (a : List ℕ) (i : ℕ) → i + 4 ≤ length a →
-    canonical (drop i a) ≡ (ltb (get_or a i 0) p && (ltb (get_or a (i + 1) 0) p && (ltb (get_or a (i + 2) 0) p && (ltb (get_or a (i + 3) 0) p && canonical (drop (i + 4) a)))))
-canonical_four a i h =
-    let e2 : i + 1 + 1 ≡ i + 2 = omega arith in
-    let e3 : i + 2 + 1 ≡ i + 3 = omega arith in
-    let e4 : i + 3 + 1 ≡ i + 4 = omega arith in
-    canonical-at a i (omega arith)
-    ∙ ap (λ (b : Bool). ltb (get_or a i 0) p && b) (canonical-at a (i + 1) (omega arith)
-    ∙ rw e2 (ap (λ (b : Bool). ltb (get_or a (i + 1) 0) p && b) (canonical-at a (i + 2) (omega arith)
-    ∙ rw e3 (ap (λ (b : Bool). ltb (get_or a (i + 2) 0) p && b) (canonical-at a (i + 3) (omega arith) ∙ rw e4)))))

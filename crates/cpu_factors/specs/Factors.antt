@@ -1,5 +1,4 @@
 -- Products of a row's selectors and flags that several constraints of tape.rs and call_sc.rs begin with.
-use Rattle.std.specs.Prelude.{List, [], ◌∷◌}
 use Rattle.algebra.specs.Expr.{Expr, ◌⊕◌, ◌⊖◌, ◌⊗◌}
 use Rattle.table.specs.Columns.{COL-IS-EXT-LINE, COL-S-TLOAD, COL-S-TSTORE, COL-S-CALL-SC, COL-S-END}
 use Rattle.table.specs.Cells.{Cell, lv}
@@ -23,7 +22,3 @@ tape_ext_line = (lv COL-S-TSTORE ⊕ lv COL-S-TLOAD) ⊗ lv COL-IS-EXT-LINE
 
 abbrev pub tstore_main_line : Expr Cell
 tstore_main_line = lv COL-S-TSTORE ⊗ (𝟙 ⊖ lv COL-IS-EXT-LINE)
-
--- in the order in which they are computed
-abbrev pub row_factors : List (Expr Cell)
-row_factors = call_sc_main_line ∷ call_sc_ext_line ∷ after_call_sc ∷ end_ext_line ∷ tape_ext_line ∷ tstore_main_line ∷ []

@@ -12,7 +12,7 @@ use residue::Residue;
 use table::Row;
 use table::columns::*;
 
-// A row with its products.
+// A row with its products, each of which is a number that the row determines.
 #[derive(Clone, Copy)]
 pub struct FactoredRow<'a> {
     pub row: &'a Row<'a>,
@@ -22,12 +22,12 @@ pub struct FactoredRow<'a> {
     pub end_ext_line: Residue,
     pub tape_ext_line: Residue,
     pub tstore_main_line: Residue,
-    pub ghost call_sc_main: { call_sc_main_line ≡ eval residues (cells [] row.now [] 0 0) call_sc_main_line_of },
-    pub ghost call_sc_ext: { call_sc_ext_line ≡ eval residues (cells [] row.now [] 0 0) call_sc_ext_line_of },
-    pub ghost after: { after_call_sc ≡ eval residues (cells [] row.now [] 0 0) after_call_sc_of },
-    pub ghost end_ext: { end_ext_line ≡ eval residues (cells [] row.now [] 0 0) end_ext_line_of },
-    pub ghost tape_ext: { tape_ext_line ≡ eval residues (cells [] row.now [] 0 0) tape_ext_line_of },
-    pub ghost tstore_main: { tstore_main_line ≡ eval residues (cells [] row.now [] 0 0) tstore_main_line_of },
+    pub ghost call_sc_main_line_is: { call_sc_main_line ≡ eval residues (cells [] row.now [] 0 0) call_sc_main_line_of },
+    pub ghost call_sc_ext_line_is: { call_sc_ext_line ≡ eval residues (cells [] row.now [] 0 0) call_sc_ext_line_of },
+    pub ghost after_call_sc_is: { after_call_sc ≡ eval residues (cells [] row.now [] 0 0) after_call_sc_of },
+    pub ghost end_ext_line_is: { end_ext_line ≡ eval residues (cells [] row.now [] 0 0) end_ext_line_of },
+    pub ghost tape_ext_line_is: { tape_ext_line ≡ eval residues (cells [] row.now [] 0 0) tape_ext_line_of },
+    pub ghost tstore_main_line_is: { tstore_main_line ≡ eval residues (cells [] row.now [] 0 0) tstore_main_line_of },
 }
 
 impl<'a> FactoredRow<'a> {

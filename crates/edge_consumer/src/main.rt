@@ -9,44 +9,39 @@ ghost use Rattle.pair_fold_checks.specs.PairFold.{pair_fold_refusal, pair_fold_a
 ghost use Rattle.edge_consumer.specs.Calls.{kind_of, letters, yielded_by};
 
 use algebra::P;
-use consumer::{ConstraintConsumer, Outcome, pushed, pushed_first_row, pushed_transition};
+use consumer::ConstraintConsumer;
 use edge_residues::lines;
+use refusals::Refusal;
 use table::NUM_VALUES;
 use table::columns::NUM_CPU_COLS;
 use table::masks::NUM_MASKS;
 
-// A value to the call of a letter.
-fn push(letter: u8, c: ConstraintConsumer, value: u64) -> Outcome
-    ensures { result ≡ taken (kind_of letter) c value }
+// A value to the call of a letter. A call that is turned back leaves the consumer as it was.
+fn push(consumer: &mut ConstraintConsumer, letter: u8, value: u64)
+    ensures { consumer.new ≡ (taken (kind_of letter) consumer.old value).consumer }
 {
-    if letter == b't' {
-        return pushed_transition(c, value);
-    }
-    if letter == b'f' {
-        return pushed_first_row(c, value);
-    }
-    pushed(c, value)
+    let _ = match letter {
+        b't' => consumer.constraint_transition(value),
+        b'f' => consumer.constraint_first_row(value),
+        _ => consumer.constraint(value),
+    };
 }
 
 // Values one after the other, each to the call of its letter.
-fn push_all(letters: &[u8], values: &[u64], c: ConstraintConsumer) -> ConstraintConsumer
+fn push_all(consumer: &mut ConstraintConsumer, letters: &[u8], values: &[u64])
     requires { length letters.now ≡ length values.now }
-    ensures { result ≡ taken_all c (yielded_by letters.now values.now) }
+    ensures { consumer.new ≡ taken_all consumer.old (yielded_by letters.now values.now) }
 {
-    let mut d = c;
-    let n = values.len();
-    for i in 0..n {
-        let taken = push(letters[i], d, values[i]);
-        d = taken.consumer;
+    for (i, value) in values.iter().enumerate() {
+        push(consumer, letters[i], *value);
     }
-    d
 }
 
 // The values of the table one after the other, each to the call of its kind: a line for each of A, B, C, D, E,
 // F to J, K, L and M, N.
-fn push_table(values: &[u64], c: ConstraintConsumer) -> ConstraintConsumer
+fn push_table(consumer: &mut ConstraintConsumer, values: &[u64])
     requires { length values.now ≡ 226 }
-    ensures { result ≡ taken_all c (yielded_by letters values.now) }
+    ensures { consumer.new ≡ taken_all consumer.old (yielded_by letters values.now) }
 {
     let letters = b"ptppptp\
         ffffffffffffffftttttttttttttttt\
@@ -57,7 +52,7 @@ fn push_table(values: &[u64], c: ConstraintConsumer) -> ConstraintConsumer
         tttttttttt\
         ppppppppppppppppppppppppp\
         ppppppppppttpppppppppppppppppppppppppppppp";
-    push_all(letters, values, c)
+    push_all(consumer, letters, values);
 }
 
 // What a consumer leaves of the accumulators that takes the constraints of a pair of rows: with both weights 1
@@ -70,27 +65,23 @@ fn by_consumer(
     lagrange_basis_first: u64,
     alphas: &[u64],
     accs: &mut [u64],
-)
+) -> Result<(), Refusal>
     requires { pair_fold_refusal masks.now lv.now nv.now z_last lagrange_basis_first alphas.now accs.old ≡ 0 }
     ensures { accs.new ≡ pair_fold_accumulators masks.now lv.now nv.now z_last lagrange_basis_first
         alphas.now accs.old }
 {
     let mut values = [0u64; NUM_VALUES];
-    pair::pair_values(masks, lv, nv, 1, 1, &mut values);
-    let made = ConstraintConsumer::new(alphas, accs, z_last, lagrange_basis_first, 1);
-    let left = push_table(&values, made.consumer);
-    left.accumulators(accs);
+    pair::pair_values(masks, lv, nv, 1, 1, &mut values)?;
+    let mut consumer = ConstraintConsumer::new(alphas, accs, z_last, lagrange_basis_first, 1)?;
+    push_table(&mut consumer, &values);
+    consumer.accumulators(accs)
 }
 
 // What the fold and what the consumer made of an accumulator.
-fn compare(rt: HostRuntime, words: &[u8], folded: u64, pushed: u64)
+fn compare(rt: HostRuntime, words: &str, folded: u64, pushed: u64)
     requires { pushed ≡ folded }
 {
-    let _ = rt.stdout().write_all(words);
-    let _ = rt.stdout().print(folded);
-    let _ = rt.stdout().write_all(b", a consumer to ");
-    let _ = rt.stdout().print(pushed);
-    let _ = rt.stdout().write_all(b"\n");
+    let _ = println!(rt; "{words}{folded}, a consumer to {pushed}");
     check::expect(pushed == folded);
 }
 
@@ -105,13 +96,13 @@ fn main(rt: HostRuntime) {
     let alphas = [0u64, 1, P - 2];
     let mut folded = [5u64, 6, P - 1];
     let mut pushed = [5u64, 6, P - 1];
-    let number = pair_fold::pair_fold(&masks, &lv, &nv, 3, 2, &alphas, &mut folded);
-    lines::answer(rt, b"three alphas", number);
-    if number != 0 {
+    let answer = pair_fold::pair_fold(&masks, &lv, &nv, 3, 2, &alphas, &mut folded);
+    lines::answer(rt, "three alphas", answer);
+    if answer.is_err() {
         return;
     }
-    by_consumer(&masks, &lv, &nv, 3, 2, &alphas, &mut pushed);
-    compare(rt, b"alpha 0 folds 5 to ", folded[0], pushed[0]);
-    compare(rt, b"alpha 1 folds 6 to ", folded[1], pushed[1]);
-    compare(rt, b"alpha p - 2 folds p - 1 to ", folded[2], pushed[2]);
+    let _ = by_consumer(&masks, &lv, &nv, 3, 2, &alphas, &mut pushed);
+    compare(rt, "alpha 0 folds 5 to ", folded[0], pushed[0]);
+    compare(rt, "alpha 1 folds 6 to ", folded[1], pushed[1]);
+    compare(rt, "alpha p - 2 folds p - 1 to ", folded[2], pushed[2]);
 }

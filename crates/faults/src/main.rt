@@ -1,8 +1,9 @@
-// Reads 25 masks, then rows, from standard input, and prints a line for each value of a pair of rows that is not 0, as a signed number.
+// Reads 25 masks, then rows, from standard input, and prints a line for each value of a pair of rows that is not 0, as a
+// signed number.
 #![tactic(auto)]
 
-use stream_text::Text;
+use stream_lines::Faults;
 
 fn main(rt: HostRuntime) {
-    stream_reading::run(rt, Text::Faults, b"faults");
+    stream_reading::run::<Faults>(rt, b"faults");
 }

@@ -11,7 +11,13 @@ use refusals::Refusal;
 
 // Whether the pair of rows keeps the rules, for a row that is first, or last; or why the call is turned back.
 #[tactic(auto, unfolding(crate::specs::Verdict::judge_refusal, crate::specs::Verdict::verdict_of))]
-pub fn pair_judge(masks: &[u64], lv: &[u64], nv: &[u64], first: bool, last: bool) -> Result<Verdict, Refusal>
+pub fn pair_judge(
+    masks: &[u64],
+    lv: &[u64],
+    nv: &[u64],
+    first: bool,
+    last: bool,
+) -> Result<Verdict, Refusal>
     ensures { result ≡ verdict_of masks.now lv.now nv.now first last }
 {
     checks::sizes(masks, lv, nv)?;

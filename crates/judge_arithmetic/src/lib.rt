@@ -1,39 +1,38 @@
 // The rules of arithmetic: L of the rulebook.
-#![tactic(auto)]
+#![tactic(auto, unfolding(algebra::specs::Expr::eval, rulebook::specs::Rule::holds, rulebook::specs::Rule::keeps_sentence, rulebook::specs::Rule::keeps_all, rulebook::specs::Rulebook::rules_L, residue::specs::Residues::sub_p))]
 
 ghost use Rattle.std.specs.Prelude.{◌≡◌, false, []};
 ghost use Rattle.rulebook.specs.Rulebook.{rules_L};
 ghost use Rattle.judge_columns.specs.Group.{keeps_rules};
-ghost use Rattle.judge_kinds.specs.Selected.{Coded};
+ghost use Rattle.judge_kinds.specs.Kind.{number_of_kind};
 
-use judge_kinds::kinds::*;
-use residue::below::{add, sub};
-use residue::mul;
+use judge_columns::{equal, on};
+use judge_kinds::kinds::Kind;
+use judge_opcode::named;
+use residue::Residue;
 use table::columns::*;
-use table::masks as mask;
+use table::{Masks, Row, masks as mask};
 
 // L
-pub fn keeps_arithmetic(masks: &[u64], lv: &[u64], k: u64) -> bool
-    requires { Coded masks.now lv.now }
-    ensures { result ≡ keeps_rules rules_L masks.now lv.now [] k false false }
+pub fn keeps_arithmetic(masks: &Masks, lv: &Row, kind: Option<Kind>) -> bool
+    ensures { result ≡ keeps_rules rules_L masks.now lv.now [] (number_of_kind kind) false false }
 {
-    let opcode = lv[COL_OPCODE];
-    let op0 = lv[COL_OP0];
-    let op1 = lv[COL_OP1];
-    let dst = lv[COL_DST];
-    let d = sub(op0, op1);
-    let not_dst = sub(1, dst);
-    let not_inverse = sub(1, mul(d, lv[COL_AUX0]));
+    let op0 = lv.at(COL_OP0);
+    let op1 = lv.at(COL_OP1);
+    let dst = lv.at(COL_DST);
+    let d = op0 - op1;
+    let not_dst = Residue::ONE - dst;
+    let not_inverse = Residue::ONE - d * lv.at(COL_AUX0);
     // only with the arithmetic selector 1, the name told by OPCODE:
-    (k != SIMPLE_ARITHMATIC_OP)
+    !Kind::SimpleArithmaticOp.is(kind)
         // ADD DST = OP0 + OP1;
-        | ((opcode != masks[mask::ADD]) | (dst == add(op0, op1)))
+        | (!named(masks, lv, mask::ADD) | equal(dst, op0 + op1))
             // MUL the product;
-            & ((opcode != masks[mask::MUL]) | (dst == mul(op0, op1)))
+            & (!named(masks, lv, mask::MUL) | equal(dst, op0 * op1))
             // ASSERT OP1 = 1;
-            & ((opcode != masks[mask::ASSERT]) | (op1 == 1))
+            & (!named(masks, lv, mask::ASSERT) | on(lv, COL_OP1))
             // with d = OP0 - OP1, EQ DST·d + (1 - DST)(1 - d·AUX0) = 0,
-            & ((opcode != masks[mask::EQ]) | (add(mul(dst, d), mul(not_dst, not_inverse)) == 0))
+            & (!named(masks, lv, mask::EQ) | equal(dst * d + not_dst * not_inverse, Residue::ZERO))
             // NEQ the same with DST and 1 - DST exchanged.
-            & ((opcode != masks[mask::NEQ]) | (add(mul(not_dst, d), mul(dst, not_inverse)) == 0))
+            & (!named(masks, lv, mask::NEQ) | equal(not_dst * d + dst * not_inverse, Residue::ZERO))
 }

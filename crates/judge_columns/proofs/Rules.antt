@@ -12,7 +12,7 @@ use Rattle.table.specs.Cells.{Cell}
 use Rattle.rulebook.specs.Words.{bit}
 use Rattle.rulebook.specs.Rule.{Rule, fact, ◌≐◌, deny, ◌and◌, ◌or◌, ◌⇒◌, Sentence, always, [t], [f], holds, keeps_sentence, keeps_all}
 
--- b and every one of several, and b or one of several, from the left as the code has them and from the right as the rules have them
+-- b and every one of several, from the left as the code has them and from the right as the rules have them
 abbrev pub left_and : Bool → List Bool → Bool
 left_and b [] = b
 left_and b (c ∷ cs) = left_and (b && c) cs
@@ -21,23 +21,10 @@ abbrev right_and : Bool → List Bool → Bool
 right_and b [] = b
 right_and b (c ∷ cs) = b && right_and c cs
 
-abbrev left_or : Bool → List Bool → Bool
-left_or b [] = b
-left_or b (c ∷ cs) = left_or (b || c) cs
-
-abbrev right_or : Bool → List Bool → Bool
-right_or b [] = b || false
-right_or b (c ∷ cs) = b || right_or c cs
-
 and_left : (b : Bool) (cs : List Bool) → right_and b cs ≡ left_and b cs
 and_left b [] = refl
 and_left b (c ∷ []) = refl
 and_left b (c ∷ (d ∷ ds)) = sym (and_assoc b c (right_and d ds)) ∙ and_left (b && c) (d ∷ ds)
-
-or_left : (b : Bool) (cs : List Bool) → right_or b cs ≡ left_or b cs
-or_left b [] = or-false b
-or_left b (c ∷ []) = ap (λ (a : Bool). b || a) (or-false c)
-or_left b (c ∷ (d ∷ ds)) = sym (or_assoc b c (right_or d ds)) ∙ or_left (b || c) (d ∷ ds)
 
 module _ (x : Cell → ℕ) where
   -- an equation and a test of two numbers, which a call answers
@@ -112,10 +99,6 @@ module _ (x : Cell → ℕ) where
     unfolding holds
     and3_of = rw (d, e, f) (and_left a (b ∷ c ∷ []))
 
-    pub some3_of : holds x (r or (s or (t or fact false))) ≡ ((a || b) || c)
-    unfolding holds
-    some3_of = rw (d, e, f) (or_left a (b ∷ c ∷ []))
-
     module _ (r₄ : Rule) {a₄ : Bool} (d₄ : holds x r₄ ≡ a₄) where
       pub and4_of : holds x (r and (s and (t and r₄))) ≡ (((a && b) && c) && a₄)
       unfolding holds
@@ -126,18 +109,10 @@ module _ (x : Cell → ℕ) where
         unfolding holds
         and5_of = rw (d, e, f, d₄, d₅) (and_left a (b ∷ c ∷ a₄ ∷ a₅ ∷ []))
 
-        pub some5_of : holds x (r or (s or (t or (r₄ or (r₅ or fact false))))) ≡ ((((a || b) || c) || a₄) || a₅)
-        unfolding holds
-        some5_of = rw (d, e, f, d₄, d₅) (or_left a (b ∷ c ∷ a₄ ∷ a₅ ∷ []))
-
         module _ (r₆ : Rule) {a₆ : Bool} (d₆ : holds x r₆ ≡ a₆) where
           pub and6_of : holds x (r and (s and (t and (r₄ and (r₅ and r₆))))) ≡ (((((a && b) && c) && a₄) && a₅) && a₆)
           unfolding holds
           and6_of = rw (d, e, f, d₄, d₅, d₆) (and_left a (b ∷ c ∷ a₄ ∷ a₅ ∷ a₆ ∷ []))
-
-          pub some6_of : holds x (r or (s or (t or (r₄ or (r₅ or (r₆ or fact false)))))) ≡ (((((a || b) || c) || a₄) || a₅) || a₆)
-          unfolding holds
-          some6_of = rw (d, e, f, d₄, d₅, d₆) (or_left a (b ∷ c ∷ a₄ ∷ a₅ ∷ a₆ ∷ []))
 
   module _ (first last : Bool) where
     pub always_of : (r : Rule) {a : Bool} → holds x r ≡ a → keeps_sentence x first last (always r) ≡ a
@@ -206,9 +181,10 @@ pub ruleset exprs = (value_told, sum_of, difference_of, product_of, var_of, con_
 
 pub ruleset rules = (always_of, transition_of, first_of, told, bit_of, equal_of, deny_of, and_of, or_of, unless_of, implies_of, fact_told, fact_of, among_two, both)
 
--- for rules with more than two parts, for a choice among several, and for counts
+-- for rules with more than two parts, and for counts
 pub ruleset chains = (and3_of, and4_of, and5_of, and6_of)
 
-pub ruleset choices = (some3_of, some5_of, some6_of)
-
 pub ruleset counts = (eqb_of, leb_of)
+
+-- how the code and the rulebook group tests
+pub ruleset bools = (and_assoc, and-true, or_assoc, or-false, not-not)

@@ -2,16 +2,18 @@
 use Prim.Native.Nat.{ℕ, zero, suc, ◌+◌}
 use native.Mathlib.Nat.{add-zero, zero-add, add_assoc}
 use native.Mathlib.Numerals.{add-one}
-use mathlib.Core.Path.{◌≡◌, sym, ap, ◌∙◌}
+use mathlib.Core.Path.{◌≡◌, refl, sym, ap, ◌∙◌}
 use mathlib.Core.Bool.{Bool, true, ◌&&◌, ◌||◌, cond, and-true, and_assoc}
 use lib.Dec.{eqb}
 use Rattle.std.specs.List.{fold, range_with_len, count_by}
 use Rattle.algebra.specs.Lists.{range}
-use Rattle.table.specs.Cells.{Cell}
-use Rattle.rulebook.specs.Rule.{Rule, holds}
+use mathlib.Core.List.{List, []}
+use Rattle.algebra.specs.Expr.{eval}
+use Rattle.table.specs.Cells.{Cell, cells, lv, nv}
+use Rattle.rulebook.specs.Rule.{Rule, ◌≐◌, ◌⇒◌, holds}
 use Rattle.rulebook.specs.Kind.{ones}
 use Rattle.rulebook.specs.Plain.{bits}
-use Rattle.rulebook.specs.Words.{every}
+use Rattle.rulebook.specs.Words.{on, every}
 
 -- b, and that every test of the run is passed
 abbrev asked : (ℕ → Bool) → Bool → ℕ → ℕ → Bool
@@ -49,3 +51,10 @@ counted g b a (suc n) =
 
 pub ones_run : (g : ℕ → ℕ) (a n : ℕ) → count_by (λ c. eqb (g c) 1) (range_with_len a n) ≡ ones g a n
 ones_run g a n = counted g 0 a n ∙ zero-add (ones g a n)
+
+-- registers of the current row, lent as those of the next
+pub chosen_current : (l : List ℕ) (s o : ℕ) →
+    holds (cells [] l l 0 0) (every (range 0 10) (λ i. on (s + i) ⇒ nv (16 + i) ≐ lv o))
+    ≡ holds (cells [] l [] 0 0) (every (range 0 10) (λ i. on (s + i) ⇒ lv (16 + i) ≐ lv o))
+unfolding holds eval
+chosen_current l s o = refl

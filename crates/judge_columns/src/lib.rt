@@ -10,7 +10,7 @@ ghost use Rattle.table.specs.Cells.{cells, lv as lv_of, nv as nv_of};
 ghost use Rattle.rulebook.specs.Rule.{◌≐◌, deny, ◌⇒◌, holds};
 ghost use Rattle.rulebook.specs.Kind.{ones as ones_of};
 ghost use Rattle.rulebook.specs.Plain.{bits as bits_of};
-ghost use Rattle.rulebook.specs.Words.{on, off, kept, bit as bit_of, every};
+ghost use Rattle.rulebook.specs.Words.{on, off, kept, grows, bit as bit_of, every};
 ghost use Rattle.judge_columns.specs.Group.{addresses_kept};
 
 use residue::Residue;
@@ -57,6 +57,24 @@ pub fn kept(lv: &Row, nv: &Row, column: usize) -> bool
     ensures { result ≡ holds (cells [] lv.now nv.now 0 0) (kept column) }
 {
     nv.at(column) == lv.at(column)
+}
+
+// Whether the next row has n more than the current row in a column.
+pub fn grows(lv: &Row, nv: &Row, column: usize, n: u64) -> bool
+    requires place { column < NUM-CPU-COLS }
+    requires canonical { n < p }
+    ensures { result ≡ holds (cells [] lv.now nv.now 0 0) (grows column n) }
+{
+    nv.at(column) == lv.at(column) + Residue::new(n)
+}
+
+// Whether the next row has in column `to` what the current row has in column `from`.
+pub fn carried<'a>(lv: &Row<'a>, from: usize, nv: &Row<'a>, to: usize) -> bool
+    requires current { from < NUM-CPU-COLS }
+    requires next { to < NUM-CPU-COLS }
+    ensures { result ≡ holds (cells [] lv.now nv.now 0 0) (nv_of to ≐ lv_of from) }
+{
+    nv.at(to) == lv.at(from)
 }
 
 // Whether the n columns from `start` on are 0. The runs ask each column, with no branch, so that they are vectorised.
@@ -108,7 +126,8 @@ pub fn addresses_kept(lv: &Row, nv: &Row) -> bool
 pub fn chosen(row: &Row, s: usize, regs: &Row, o: usize) -> bool
     requires selectors { s + REGISTER-NUM ≤ NUM-CPU-COLS }
     requires operand { o < NUM-CPU-COLS }
-    ensures { result ≡ holds (cells [] row.now regs.now 0 0) (every (range 0 REGISTER-NUM) (λ i. on (s + i) ⇒ nv_of (COL-REGS-START + i) ≐ lv_of o)) }
+    ensures next { result ≡ holds (cells [] row.now regs.now 0 0) (every (range 0 REGISTER-NUM) (λ i. on (s + i) ⇒ nv_of (COL-REGS-START + i) ≐ lv_of o)) }
+    ensures current { regs.now ≡ row.now → result ≡ holds (cells [] row.now [] 0 0) (every (range 0 REGISTER-NUM) (λ i. on (s + i) ⇒ lv_of (COL-REGS-START + i) ≐ lv_of o)) }
 {
     let operand = row.at(o);
     (0..REGISTER_NUM).fold(

@@ -6,11 +6,10 @@ ghost use Rattle.rulebook.specs.Rulebook.{rules_D, rules_E};
 ghost use Rattle.judge_columns.specs.Group.{keeps_rules};
 ghost use Rattle.judge_kinds.specs.Kind.{number_of_kind};
 
-use judge_columns::{equal, kept, off, on, same};
+use judge_columns::{carried, equal, grows, kept, off, on, same};
 use judge_kinds::kinds::Kind;
 use judge_kinds::selected::{ext_length, is_ext_kind, next_is_ext_kind};
 use judge_kinds::step::Step;
-use residue::Residue;
 use table::columns::*;
 
 // D
@@ -20,8 +19,9 @@ pub fn keeps_ext_lines(step: &Step) -> bool
     let (lv, nv) = (step.lv, step.nv);
     let ext_kind = is_ext_kind(step.kind);
     let main = off(lv, COL_IS_EXT_LINE);
-    let ext_cnt = lv.at(COL_EXT_CNT);
-    let cnt_grows = equal(nv.at(COL_EXT_CNT), ext_cnt + Residue::ONE);
+    let next_ext = on(nv, COL_IS_EXT_LINE);
+    let next_main = off(nv, COL_IS_EXT_LINE);
+    let cnt_grows = grows(lv, nv, COL_EXT_CNT, 1);
     let selectors = COL_S_SIMPLE_ARITHMATIC_OP;
     let instruction_kept = kept(lv, nv, COL_OPCODE)
         & same(nv, selectors, lv, selectors, NUM_OP_SELECTOR)
@@ -30,12 +30,12 @@ pub fn keeps_ext_lines(step: &Step) -> bool
     (ext_kind | main)
         // Ext kind: next main → EXT_CNT = length; main → EXT_CNT 0.
         & (!ext_kind
-            | (!off(nv, COL_IS_EXT_LINE) | equal(ext_cnt, ext_length(lv, step.kind)))
+            | (!next_main | equal(lv.at(COL_EXT_CNT), ext_length(lv, step.kind)))
                 & (!main | off(lv, COL_EXT_CNT)))
         // Next ext kind and ext → EXT_CNT' = EXT_CNT + 1.
-        & (!(next_is_ext_kind(nv) & on(nv, COL_IS_EXT_LINE)) | cnt_grows)
+        & (!(next_is_ext_kind(nv) & next_ext) | cnt_grows)
         // Next ext → OPCODE, 19 selectors, OP1_IMM kept.
-        & (!on(nv, COL_IS_EXT_LINE) | instruction_kept)
+        & (!next_ext | instruction_kept)
 }
 
 // E
@@ -47,13 +47,12 @@ pub fn keeps_env_idx(step: &Step, last: bool) -> bool
     let end = step.is(Kind::End);
     let diff = on(lv, COL_IS_NEXT_LINE_DIFF_INST);
     let same_tx = on(lv, COL_IS_NEXT_LINE_SAME_TX);
-    let call_sc_cnt = lv.at(COL_CALL_SC_CNT);
     let cnt_kept = kept(lv, nv, COL_CALL_SC_CNT);
     let env_kept = kept(lv, nv, COL_ENV_IDX);
     // [t] CALL_SC and diff → CALL_SC_CNT' = CALL_SC_CNT + 1.
-    (last | (!(call_sc & diff) | equal(nv.at(COL_CALL_SC_CNT), call_sc_cnt + Residue::ONE)))
+    (last | (!(call_sc & diff) | grows(lv, nv, COL_CALL_SC_CNT, 1)))
         // CALL_SC and diff → ENV_IDX' = CALL_SC_CNT, on the last row too.
-        & (!(call_sc & diff) | equal(nv.at(COL_ENV_IDX), call_sc_cnt))
+        & (!(call_sc & diff) | carried(lv, COL_CALL_SC_CNT, nv, COL_ENV_IDX))
         // [t] same, not CALL_SC → CALL_SC_CNT kept.
         & (last | (!(same_tx & !call_sc) | cnt_kept))
         // CALL_SC, not diff → CALL_SC_CNT and ENV_IDX kept.

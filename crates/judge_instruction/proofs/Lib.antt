@@ -1,4 +1,2 @@
 pub mod Parts
-pub mod Words
 pub mod Joins
-pub mod Groups

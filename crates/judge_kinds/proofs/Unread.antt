@@ -43,3 +43,6 @@ module _ (m l n : List ℕ) (z f k : ℕ) where
 pub length_told : (m l n : List ℕ) (z f k : ℕ) {v : ℕ} → v ≡ eval residues (cells [] l [] 0 0) (ext_length k) →
     eval residues (cells m l n z f) (ext_length k) ≡ v
 length_told m l n z f k h = length-same m l n z f k ∙ sym h
+
+pub length_masks : (m l n : List ℕ) (z f k : ℕ) → eval residues (cells m l n z f) (ext_length k) ≡ eval residues (cells [] l n 0 0) (ext_length k)
+length_masks m l n z f k = length-same m l n z f k ∙ sym (length-same [] l n 0 0 k)

@@ -12,8 +12,7 @@ ghost use Rattle.judge_opcode.specs.Opcode.{opcode_of};
 use judge_columns::equal;
 use judge_kinds::kinds::Kind;
 use table::columns::*;
-use table::masks as mask;
-use table::{Masks, Row};
+use table::{Masks, Row, masks as mask};
 
 // Whether OPCODE is the mask at a place.
 pub fn named(masks: &Masks, lv: &Row, place: usize) -> bool
@@ -35,7 +34,9 @@ pub fn has_opcode(masks: &Masks, lv: &Row, kind: Option<Kind>) -> bool
                 | named(masks, lv, mask::NEQ)
                 | named(masks, lv, mask::ASSERT)
         }
-        Some(Kind::Bitwise) => named(masks, lv, mask::AND) | named(masks, lv, mask::OR) | named(masks, lv, mask::XOR),
+        Some(Kind::Bitwise) => named(masks, lv, mask::AND)
+            | named(masks, lv, mask::OR)
+            | named(masks, lv, mask::XOR),
         Some(Kind::Mov) => named(masks, lv, mask::MOV),
         Some(Kind::Jmp) => named(masks, lv, mask::JMP),
         Some(Kind::Cjmp) => named(masks, lv, mask::CJMP),

@@ -2,24 +2,23 @@
 #![tactic(auto)]
 
 ghost use Rattle.std.specs.Prelude.{◌≡◌};
-ghost use Rattle.table.specs.Rows.{Rows};
 ghost use Rattle.rulebook.specs.Plain.{pair_plain};
 
 use judge_columns::{bit, bits, ones};
+use table::Row;
 use table::columns::*;
 
 // IS_EXT_LINE, entry, diff, same are 0 or 1; IS_EXT_LINE' and pad' too; exactly one next selector is 1,
 // others 0.
-pub fn plain_flags(lv: &[u64], nv: &[u64]) -> bool
-    requires { Rows lv.now nv.now }
+pub fn plain_flags(lv: &Row, nv: &Row) -> bool
     ensures { result ≡ pair_plain lv.now nv.now }
 {
-    bit(lv[COL_IS_EXT_LINE])
-        & bit(lv[COL_IS_ENTRY_SC])
-        & bit(lv[COL_IS_NEXT_LINE_DIFF_INST])
-        & bit(lv[COL_IS_NEXT_LINE_SAME_TX])
-        & bit(nv[COL_IS_EXT_LINE])
-        & bit(nv[COL_IS_PADDING])
+    bit(lv.at(COL_IS_EXT_LINE))
+        & bit(lv.at(COL_IS_ENTRY_SC))
+        & bit(lv.at(COL_IS_NEXT_LINE_DIFF_INST))
+        & bit(lv.at(COL_IS_NEXT_LINE_SAME_TX))
+        & bit(nv.at(COL_IS_EXT_LINE))
+        & bit(nv.at(COL_IS_PADDING))
         & bits(nv, COL_S_SIMPLE_ARITHMATIC_OP, NUM_OP_SELECTOR)
         & (ones(nv, COL_S_SIMPLE_ARITHMATIC_OP, NUM_OP_SELECTOR) == 1)
 }

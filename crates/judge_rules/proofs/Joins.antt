@@ -10,8 +10,7 @@ use Rattle.rulebook.specs.Plain.{pair_keeps}
 use Rattle.judge_columns.specs.Group.{keeps_rules}
 use Rattle.judge_columns.proofs.Rules.{left_and, keeps_joined}
 
--- the rulebook, group by group
-pub rulebook_joins : (m l n : List ℕ) (first last : Bool) → pair_keeps m l n first last
+joins : (m l n : List ℕ) (first last : Bool) → pair_keeps m l n first last
     ≡ left_and (keeps_rules rules_A m l n (kind_of (cells m l n 0 0)) first last)
     (keeps_rules rules_B m l n (kind_of (cells m l n 0 0)) first last
     ∷ keeps_rules rules_C m l n (kind_of (cells m l n 0 0)) first last
@@ -28,7 +27,7 @@ pub rulebook_joins : (m l n : List ℕ) (first last : Bool) → pair_keeps m l n
     ∷ keeps_rules rules_N m l n (kind_of (cells m l n 0 0)) first last
     ∷ [])
 unfolding pair_keeps keeps rulebook
-rulebook_joins m l n first last =
+joins m l n first last =
     let x = cells m l n 0 0 in
     let k = kind_of x in
     keeps_joined x first last (rules_A x k)
@@ -46,3 +45,25 @@ rulebook_joins m l n first last =
     ∷ rules_M x k
     ∷ rules_N x k
     ∷ [])
+
+-- the rulebook, group by group, at the kind that a call tells
+pub rulebook_joins : (m l n : List ℕ) (first last : Bool) (k : ℕ) → k ≡ kind_of (cells [] l [] 0 0) → pair_keeps m l n first last
+    ≡ left_and (keeps_rules rules_A m l n k first last)
+    (keeps_rules rules_B m l n k first last
+    ∷ keeps_rules rules_C m l n k first last
+    ∷ keeps_rules rules_D m l n k first last
+    ∷ keeps_rules rules_E m l n k first last
+    ∷ keeps_rules rules_F m l n k first last
+    ∷ keeps_rules rules_G m l n k first last
+    ∷ keeps_rules rules_H m l n k first last
+    ∷ keeps_rules rules_I m l n k first last
+    ∷ keeps_rules rules_J m l n k first last
+    ∷ keeps_rules rules_K m l n k first last
+    ∷ keeps_rules rules_L m l n k first last
+    ∷ keeps_rules rules_M m l n k first last
+    ∷ keeps_rules rules_N m l n k first last
+    ∷ [])
+unfolding kind_of
+rulebook_joins m l n first last k e =
+    let d : k ≡ kind_of (cells m l n 0 0) = e in
+    rw d (joins m l n first last)

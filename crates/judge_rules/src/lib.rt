@@ -3,7 +3,6 @@
 
 ghost use Rattle.std.specs.Prelude.{◌≡◌};
 ghost use Rattle.rulebook.specs.Plain.{pair_keeps};
-ghost use Rattle.judge_rules.specs.Pair.{Pair};
 
 use judge_arithmetic::*;
 use judge_call_sc::*;
@@ -11,27 +10,29 @@ use judge_environment::*;
 use judge_flow::*;
 use judge_instruction::*;
 use judge_kinds::selected::kind;
+use judge_kinds::step::Step;
 use judge_tape::*;
 use judge_transaction::*;
+use table::{Masks, Row};
 
 // Whether the pair keeps every rule.
-pub fn keeps(masks: &[u64], lv: &[u64], nv: &[u64], first: bool, last: bool) -> bool
-    requires { Pair masks.now lv.now nv.now }
+pub fn keeps(masks: &Masks, lv: &Row, nv: &Row, first: bool, last: bool) -> bool
     ensures { result ≡ pair_keeps masks.now lv.now nv.now first last }
 {
-    let k = kind(lv);
-    keeps_wrapper_cols(lv, nv, k, last)
+    let kind = kind(lv);
+    let step = Step { lv, nv, kind };
+    keeps_wrapper_cols(&step, last)
         & keeps_tx_init(lv, nv, first, last)
-        & keeps_body(lv, nv, k, last)
-        & keeps_ext_lines(lv, nv, k)
-        & keeps_env_idx(lv, nv, k, last)
-        & keeps_opcode_selector(masks, lv, k)
+        & keeps_body(&step, last)
+        & keeps_ext_lines(&step)
+        & keeps_env_idx(&step, last)
+        & keeps_opcode_selector(masks, lv, kind)
         & keeps_instruction_encode(lv)
         & keeps_operands(lv, nv)
-        & keeps_clk(lv, nv, k)
-        & keeps_pc(lv, nv, k)
-        & keeps_registers(lv, nv, k, last)
-        & keeps_arithmetic(masks, lv, k)
-        & keeps_tape(lv, nv, k)
-        & keeps_call_sc(lv, nv, k, last)
+        & keeps_clk(&step)
+        & keeps_pc(&step)
+        & keeps_registers(&step, last)
+        & keeps_arithmetic(masks, lv, kind)
+        & keeps_tape(&step)
+        & keeps_call_sc(&step, last)
 }

@@ -2,14 +2,14 @@
 use mathlib.Core.Path.{◌≡◌, refl, sym, ap, ◌∙◌}
 use mathlib.Core.Bool.{Bool, true, false, cond, not, ◌&&◌, ◌||◌, and_assoc, and-true}
 use mathlib.Core.List.{List, [], ◌∷◌, ◌++◌}
-use Prim.Native.Nat.{ℕ, zero, suc, ◌+◌, ◌-◌, ◌<◌, ◌≤◌}
+use Prim.Native.Nat.{ℕ, zero, suc, ◌+◌, ◌-◌, ◌<◌}
 use native.Mathlib.Numerals.{add-one}
 use native.Mathlib.Omega.{arith}
-use lib.ListN.{length, get_or, take, drop, drop_of_length-le, take-append-drop}
+use lib.ListN.{length, get_or, take, drop, take-append-drop}
 use lib.Seq.{drop-cons}
 use lib.Dec.{T, eqb, ltb, ltb→lt, lit<}
 use borrow.Author.Tests.{eqb-true, eqb-false, eq-eqb, ne_eqb, not-false, ltb-true}
-use Rattle.std.specs.Prelude.{Ok, Err}
+use Rattle.std.specs.Prelude.{Ok}
 use Rattle.std.specs.List.{fold, list_any}
 use Rattle.algebra.specs.Prime.{p}
 use Rattle.algebra.proofs.Slices.{to_end}
@@ -130,34 +130,6 @@ eqb_comm a b = go (eqb a b) refl
 module _ (a : List ℕ) (i : ℕ) where
   pub front : i < length a → drop i a ≡ get_or a i 0 ∷ drop (i + 1) a
   front h = rw (add-one, drop-cons a i 0)
-
-  pub canonical-at : i < length a → canonical (drop i a) ≡ (ltb (get_or a i 0) p && canonical (drop (i + 1) a))
-  unfolding canonical
-  canonical-at h = ap canonical (front h)
-
-  pub canonical-end : length a ≤ i → canonical (drop i a) ≡ true
-  unfolding canonical
-  canonical-end h = ap canonical (drop_of_length-le a h)
-
-  pub member-at : (x : ℕ) → i < length a → member x (drop i a) ≡ (eqb (get_or a i 0) x || member x (drop (i + 1) a))
-  member-at x h = ap (member x) (front h) ∙ ap (λ (t : Bool). t || member x (drop (i + 1) a)) (eqb_comm x (get_or a i 0))
-
-  pub member-end : (x : ℕ) → length a ≤ i → member x (drop i a) ≡ false
-  member-end x h = ap (member x) (drop_of_length-le a h)
-
-  distinct-at : i < length a → distinct (drop i a) ≡ (not (member (get_or a i 0) (drop (i + 1) a)) && distinct (drop (i + 1) a))
-  unfolding distinct
-  distinct-at h = ap distinct (front h)
-
-  pub distinct-end : length a ≤ i → distinct (drop i a) ≡ true
-  unfolding distinct
-  distinct-end h = ap distinct (drop_of_length-le a h)
-
-  -- a turn of a loop that asks whether the element at i is among those after it, `&a[i + 1..]`
-  pub distinct_turn : i < length a → (b : Bool) → member (get_or a i 0) (take (length a - (i + 1)) (drop (i + 1) a)) ≡ b
-      → distinct (drop i a) ≡ (not b && distinct (drop (i + 1) a))
-  distinct_turn h b e =
-      distinct-at h ∙ ap (λ (t : Bool). not t && distinct (drop (i + 1) a)) (ap (member (get_or a i 0)) (sym (to_end (i + 1) a)) ∙ e)
 
 -- the numbers of the table are those of its lines
 pub refusal-number : (r : Refusal) → refusal (number r) ≡ r

@@ -2,4 +2,3 @@ pub mod Remainders
 pub mod Laws
 pub mod Folding
 pub mod Field
-pub mod Called

@@ -20,7 +20,8 @@ use table::{Pair, Row};
 
 pub fn constraint_tx_init(pair: &Pair, out: &mut [u64])
     requires { length out.old ≡ 31 }
-    ensures { out.new ≡ values residues (cells [] pair.now.lv pair.now.nv pair.now.z_last pair.now.lagrange_basis_first) constraint_tx_init }
+    ensures { out.new
+        ≡ values residues (cells [] pair.now.lv pair.now.nv pair.now.z_last pair.now.lagrange_basis_first) constraint_tx_init }
 {
     put(
         &mut out[0..5],

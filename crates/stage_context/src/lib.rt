@@ -20,7 +20,8 @@ pub mod cpu_stark;
 #[tactic(auto, unfolding(algebra::specs::Expr::eval, table::specs::Entry::values, table::specs::Entry::each, table::specs::CpuStark::constraint_tx_init, table::specs::CpuStark::tx_init_first_line_head, table::specs::CpuStark::tx_init_first_line_regs, table::specs::CpuStark::tx_init_each_tx_head, table::specs::CpuStark::tx_init_each_tx_regs, table::specs::CpuStark::eval_packed_generic_body, table::specs::CpuStark::body_tx_idx, table::specs::CpuStark::body_ctx_regs, table::specs::CpuStark::body_filter_imm, table::specs::CpuStark::constraint_ext_lines, table::specs::CpuStark::ext_lines_counts, table::specs::CpuStark::ext_lines_opcode, table::specs::CpuStark::ext_lines_selectors, table::specs::CpuStark::ext_lines_op1_imm, table::specs::CpuStark::constraint_wrapper_cols, table::specs::CpuStark::constraint_env_idx, table::specs::CpuStark::lv_is_ext_inst, table::specs::CpuStark::nv_is_ext_inst, table::specs::CpuStark::lv_ext_length, crate::specs::Stage::context))]
 pub fn eval_context(pair: &Pair, out: &mut [u64])
     requires { length out.old ≡ 82 }
-    ensures { out.new ≡ values residues (cells [] pair.now.lv pair.now.nv pair.now.z_last pair.now.lagrange_basis_first) context }
+    ensures { out.new
+        ≡ values residues (cells [] pair.now.lv pair.now.nv pair.now.z_last pair.now.lagrange_basis_first) context }
 {
     let counted = CountedRow::new(&pair.lv);
     put(

@@ -1,57 +1,44 @@
-// A program over masks and rows on a block of bytes: what one read gave, with the part of a row that was left over in front.
+// A program over masks and rows on a block of bytes: what one read gave, with the part of a row that was left over in
+// front.
 #![tactic(auto)]
 
-ghost use Rattle.std.specs.Prelude.{◌≡◌, true, ◌≤◌, ◌<◌, length};
-ghost use Rattle.stream_text.specs.Text.{text_by, pair_bytes};
+ghost use Rattle.std.specs.Prelude.{◌≡◌, true, ◌+◌, ◌≤◌, ◌<◌, length};
+ghost use Rattle.stream_text.specs.Room.{pair_bytes};
 ghost use Rattle.stream_model.specs.Model.{Gives};
 ghost use Rattle.stream_model.specs.Rows.{rows_in, fed_rows};
-ghost use Rattle.stream_model.specs.Sound.{Sound, Onward};
+ghost use Rattle.stream_model.specs.Sound.{Onward};
 
-use stream_model::{ROW_BYTES, State, Step};
-use stream_text::{PAIR_BYTES, Text};
+use stream_model::{ROW_BYTES, SoundState};
+use stream_text::{PAIR_BYTES, PairText};
+use text::TextBuffer;
 
-// The step that some rows of a block make together, and how many rows those are.
+// The state after some rows of a block, and how many rows those are.
 #[derive(Clone, Copy)]
 pub struct Block {
-    pub step: Step,
+    pub after: SoundState,
     pub rows: usize,
 }
 
-// Feeds the whole rows of the bytes one after the other, as long as more may come and a pair's text has room, and puts their texts at the
-// start of `out`.
-pub fn feed_rows(text: Text, s: State, bytes: &[u8], out: &mut [u8]) -> Block
-    requires sound { Sound s }
-    ensures gives { Gives (fed_rows (text_by text) result.rows s bytes.now) result.step out.old out.new 0 }
-    ensures onward { Onward result.rows s result.step.state }
+// Feeds the whole rows of the bytes one after the other, as long as more may come and a pair's text has room, and puts
+// their texts behind what the buffer holds.
+pub fn feed_rows<T: PairText<N>, const N: usize>(
+    s: SoundState,
+    bytes: &[u8],
+    out: &mut TextBuffer<N>,
+) -> Block
+    ensures gives { Gives (fed_rows T.text result.rows s.state bytes.now) result.after.state out.old out.new }
+    ensures onward { Onward result.rows s.state result.after.state }
     ensures within { result.rows ≤ rows_in bytes.now }
-    ensures some { s.running ≡ true → 0 < rows_in bytes.now → pair_bytes ≤ length out.old → 0 < result.rows }
+    ensures some { s.state.running ≡ true → 0 < rows_in bytes.now → length out.old + pair_bytes ≤ N → 0 < result.rows }
 {
+    let mut after = s;
     let rows = bytes.len() / ROW_BYTES;
-    let mut state = s;
-    let mut next = 0;
-    let mut i = 0;
-    while i < rows {
-        if !state.running {
-            return Block {
-                step: Step { state, next },
-                rows: i,
-            };
-        }
-        if out.len() - next < PAIR_BYTES {
-            return Block {
-                step: Step { state, next },
-                rows: i,
-            };
+    for i in 0..rows {
+        if !after.state.running || out.room() < PAIR_BYTES {
+            return Block { after, rows: i };
         }
         let from = ROW_BYTES * i;
-        let to = from + ROW_BYTES;
-        let step = stream_steps::feed(text, state, &bytes[from..to], out, next);
-        next = step.next;
-        state = step.state;
-        i += 1;
+        after = stream_steps::feed::<T, N>(after, &bytes[from..from + ROW_BYTES], out);
     }
-    Block {
-        step: Step { state, next },
-        rows: i,
-    }
+    Block { after, rows }
 }

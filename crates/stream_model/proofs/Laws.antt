@@ -1,5 +1,5 @@
 -- How the steps go through the definitions of specs/.
-use mathlib.Core.Path.{◌≡◌, refl, ap, subst}
+use mathlib.Core.Path.{◌≡◌, refl, ap}
 use mathlib.Core.Bool.{Bool, true, false, cond}
 use mathlib.Core.List.{List, ◌++◌}
 use Prim.Native.Nat.{ℕ, zero, suc, ◌<◌}
@@ -13,8 +13,7 @@ use Rattle.table.specs.Cells.{Cell, local, next, mask_at, z_last, lagrange_basis
 use Rattle.table.specs.Rows.{Row, Masks}
 use Rattle.table.specs.Table.{pair_values}
 use Rattle.words.specs.Words.{words}
-use Rattle.stream_model.specs.Model.{Stepped, blank, refused_by, Gives}
-use Rattle.stream_model.specs.declared.State.{State}
+use Rattle.stream_model.specs.Model.{Stepped}
 
 -- what holds in both cases of a test
 pub by_cases : {A : Type 0} (P : A → Type 0) (b : Bool) {x y : A} → (b ≡ true → P x) → (b ≡ false → P y) → P (cond b x y)
@@ -24,11 +23,6 @@ by_cases P false f g = g refl
 -- a step behind what was printed before
 abbrev pub behind : List ℕ → Stepped → Stepped
 behind before t = record { state = t.state; text = before ++ t.text }
-
--- a refusal before there are masks
-pub refused_blank : {s : State} (number : ℕ) {r : State} {old new : List ℕ} → s ≡ blank
-    → Gives (refused_by s number) r old new → Gives (refused_by blank number) r old new
-refused_blank {s} number {r} {old} {new} e g = subst (λ (x : State). Gives (refused_by x number) r old new) e g
 
 pub words-length : (k : ℕ) (b : List ℕ) → length (words k b) ≡ k
 unfolding words

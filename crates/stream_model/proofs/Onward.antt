@@ -7,15 +7,14 @@ use native.Mathlib.Omega.{arith}
 use borrow.Author.Tests.{leb-false, eqb-true}
 use lib.ListN.{length}
 use lib.Dec.{eqb, leb}
-use Rattle.refusals.specs.Refusal.{row_contents, mask_contents}
+use Rattle.refusals.specs.Refusal.{row_contents}
 use Rattle.table.specs.Rows.{Row}
 use Rattle.table.proofs.Zero.{zeros-below, zero_row}
-use Rattle.checks.proofs.Laws.{accepted-row, accepted-masks}
-use Rattle.words.specs.Words.{words}
-use Rattle.stream_model.specs.Model.{PairText, blank, ended, accept_of, row_of, end_of, feed_of, masks_of, start_of, Stepped, Gives}
+use Rattle.checks.proofs.Laws.{accepted-row}
+use Rattle.stream_model.specs.Model.{PairText, blank, ended, accept_of, row_of, end_of, Stepped, Gives}
 use Rattle.stream_model.specs.Sound.{Sound, Onward}
 use Rattle.stream_model.specs.declared.State.{State}
-use Rattle.stream_model.proofs.Laws.{by_cases, words-length}
+use Rattle.stream_model.proofs.Laws.{by_cases}
 
 -- a state that ends is as sound as it was
 pub stops : (k : ℕ) (old s : State) → Sound s → Onward k old (ended s)
@@ -48,39 +47,22 @@ module _ (text : PairText) (s : State) (k : Sound s) where
   unfolding end_of
   end_leads = by_cases Leads (eqb s.rows 0) (λ _. stops 1 s s k) (λ _. stops 1 s s k)
 
-  feed_leads : (bytes : List ℕ) → Leads (feed_of text s bytes)
-  unfolding feed_of
-  feed_leads bytes =
-      by_cases Leads (eqb (length bytes) 0) (λ _. end_leads)
-      (λ _. by_cases Leads (eqb (length bytes) 752) (λ _. row_leads (words 94 bytes) (words-length 94 bytes)) (λ _. stops 1 s s k))
+  -- a step that ends the input, and one that takes a row
+  pub end_onward : {r : State} {old new : List ℕ} → Gives (end_of text s) r old new → Onward 1 s r
+  end_onward g = subst (Onward 1 s) (sym g.state_is) end_leads
 
-  pub fed : (bytes : List ℕ) {r : State} {old new : List ℕ} → Gives (feed_of text s bytes) r old new
-      → Gives (feed_of text s bytes) r old new × Onward 1 s r
-  fed bytes g = (g, subst (Onward 1 s) (sym g.state_is) (feed_leads bytes))
+  pub row_onward : (row : List ℕ) → length row ≡ 94 → {r : State} {old new : List ℕ} → Gives (row_of text s row) r old new
+      → Onward 1 s r
+  row_onward row l g = subst (Onward 1 s) (sym g.state_is) (row_leads row l)
 
--- the state that the masks leave
-abbrev SoundAfter : Stepped → Type 0
-SoundAfter t = Sound t.state
-
-blank-sound : Sound (ended blank)
+-- the state before the masks
+pub blank-sound : Sound blank
 blank-sound = record {
   masks = record { size = refl; below = zeros-below 25 };
   first = zero_row;
   previous = zero_row;
   few = omega arith;
 }
-
-start_sound : (bytes : List ℕ) → SoundAfter (start_of bytes)
-unfolding start_of masks_of
-start_sound bytes =
-    by_cases SoundAfter (eqb (length bytes) 200)
-    (λ _. by_cases SoundAfter (mask_contents (words 25 bytes)).holds (λ _. blank-sound)
-    (λ e. record { masks = accepted-masks (words 25 bytes) (words-length 25 bytes) e; first = zero_row; previous = zero_row; few = omega arith }))
-    (λ _. blank-sound)
-
-pub started : (bytes : List ℕ) {r : State} {old new : List ℕ} → Gives (start_of bytes) r old new
-    → Gives (start_of bytes) r old new × Sound r
-started bytes g = (g, subst Sound (sym g.state_is) (start_sound bytes))
 
 -- how many steps may follow: a step leaves fewer
 abbrev pub left : State → ℕ

@@ -1,172 +1,181 @@
-// A program over masks and rows, step by step: each step takes the state and what was read, and gives the state and what to print, which it
-// puts behind the first `at` bytes of a buffer.
+// A program over masks and rows, step by step: each step takes the state and what was read, and gives the state and what
+// to print, which it puts behind what the buffer holds.
 #![tactic(auto)]
 
-ghost use Rattle.std.specs.Prelude.{◌≡◌, ◌+◌, ◌≤◌, ◌<◌, length};
-ghost use Rattle.algebra.specs.Prime.{p};
-ghost use Rattle.table.specs.Rows.{Row};
-ghost use Rattle.text.specs.Put.{Put};
-ghost use Rattle.stream_text.specs.Text.{text_by, pair_bytes};
+ghost use Rattle.std.specs.Prelude.{◌≡◌, ◌++◌, ◌+◌, ◌≤◌, ◌<◌, length};
+ghost use Rattle.refusals.specs.Refusal.{number};
+ghost use Rattle.table.specs.Rows.{Row as IsRow};
+ghost use Rattle.stream_text.specs.Room.{pair_bytes};
 ghost use Rattle.stream_model.specs.Model.{blank as blank_state, refused_by, pair_text, accept_of, row_of, end_of, feed_of, masks_of, start_of, Gives};
-ghost use Rattle.stream_model.specs.Sound.{Sound, Onward};
+ghost use Rattle.stream_model.specs.Sound.{Onward};
 
-use refusals::{MASK_CONTENTS, MASK_COUNT, ROW_CONTENTS, ROW_LENGTH};
+use refusals::Refusal;
+use residue::Residue;
 use run_pairs::MAX_ROWS;
 use stream_lines::refused;
-use stream_model::{MASK_BYTES, ROW_BYTES, State, Step};
-use stream_text::{PAIR_BYTES, Text};
-use table::NUM_VALUES;
+use stream_model::{MASK_BYTES, ROW_BYTES, SoundState, State};
+use stream_text::PairText;
 use table::columns::NUM_CPU_COLS;
 use table::masks::NUM_MASKS;
+use table::{Masks, NUM_VALUES, Pair, Row};
+use text::TextBuffer;
 
-fn refuse(s: State, number: u64, out: &mut [u8], at: usize) -> Step
-    requires { at + pair_bytes ≤ length out.old }
-    ensures { Gives (refused_by s number) result out.old out.new at }
+fn refuse<const N: usize>(s: SoundState, refusal: Refusal, out: &mut TextBuffer<N>) -> SoundState
+    requires { length out.old + pair_bytes ≤ N }
+    ensures { Gives (refused_by s.state (number refusal)) result.state out.old out.new }
 {
-    let next = refused(number, out, at);
-    let mut state = s;
-    state.running = false;
-    Step { state, next }
+    refused(refusal.number(), out);
+    let mut last = s;
+    last.state.running = false;
+    last
 }
 
+#[tactic(auto, using(crate::proofs::Laws::pair_few, crate::proofs::Laws::pair_below), unfolding(stream_model::specs::Model::pair_text))]
 // The text of the pair of the previous row and the next.
-fn pair_text(
-    text: Text,
-    s: State,
-    next: &[u64; NUM_CPU_COLS],
-    z_last: u64,
-    out: &mut [u8],
-    at: usize,
-) -> usize
-    requires room { at + pair_bytes ≤ length out.old }
-    requires sound { Sound s }
-    requires row { Row next.now }
-    requires weight { z_last < p }
-    requires rows { 0 < s.rows }
-    ensures { Put out.old out.new at result (pair_text (text_by text) s next.now z_last) }
+fn put_pair<T: PairText<N>, const N: usize>(
+    s: &SoundState,
+    next: &Row,
+    z_last: Residue,
+    out: &mut TextBuffer<N>,
+)
+    requires room { length out.old + pair_bytes ≤ N }
+    requires rows { 0 < s.now.state.rows }
+    ensures { out.new ≡ out.old ++ pair_text T.text s.now.state next.now z_last }
 {
-    let masks = s.masks;
-    let previous = s.previous;
-    let index = s.rows - 1;
-    let mut values = [0u64; NUM_VALUES];
-    cpu::stages::eval_packed_generic(
-        &previous,
-        next,
-        &masks,
+    let index = s.state.rows - 1;
+    let pair = Pair {
+        masks: Masks::lend(&s.state.masks),
+        lv: Row::lend(&s.state.previous),
+        nv: Row::lend(next.words()),
         z_last,
-        run_pairs::first_weight(index),
-        &mut values,
-    );
-    stream_lines::pair(text, index as u64, &values, out, at)
+        lagrange_basis_first: run_pairs::first_weight(index),
+    };
+    let mut values = [0u64; NUM_VALUES];
+    cpu::stages::eval_packed_generic(&pair, &mut values);
+    T::put(index as u64, &values, out);
 }
 
+#[tactic(auto, unfolding(stream_model::specs::Model::accept_of))]
 // A row that is whole and canonical, and not one too many.
-fn accept(text: Text, s: State, row: [u64; NUM_CPU_COLS], out: &mut [u8], at: usize) -> Step
-    requires room { at + pair_bytes ≤ length out.old }
-    requires sound { Sound s }
-    requires row { Row row }
-    requires few { s.rows ≤ 65535 }
-    ensures { Gives (accept_of (text_by text) s row) result out.old out.new at }
+fn accept<T: PairText<N>, const N: usize>(
+    s: SoundState,
+    row: [u64; NUM_CPU_COLS],
+    out: &mut TextBuffer<N>,
+) -> SoundState
+    requires room { length out.old + pair_bytes ≤ N }
+    requires row { IsRow row }
+    requires few { s.state.rows ≤ 65535 }
+    ensures { Gives (accept_of T.text s.state row) result.state out.old out.new }
 {
-    let mut state = s;
-    state.previous = row;
-    state.running = true;
-    if s.rows == 0 {
-        state.first = row;
-        state.rows = 1;
-        return Step { state, next: at };
+    let mut next = s;
+    next.state.previous = row;
+    next.state.running = true;
+    if s.state.rows == 0 {
+        next.state.first = row;
+        next.state.rows = 1;
+        return next;
     }
-    let next = pair_text(text, s, &row, 1, out, at);
-    state.rows = s.rows + 1;
-    Step { state, next }
+    put_pair::<T, N>(&s, &Row::lend(&row), Residue::ONE, out);
+    next.state.rows = s.state.rows + 1;
+    next
 }
 
+#[tactic(auto, using(crate::proofs::Laws::row_of_canonical), unfolding(stream_model::specs::Model::row_of))]
 // A whole row.
-fn whole_row(text: Text, s: State, row: [u64; NUM_CPU_COLS], out: &mut [u8], at: usize) -> Step
-    requires room { at + pair_bytes ≤ length out.old }
-    requires sound { Sound s }
-    ensures { Gives (row_of (text_by text) s row) result out.old out.new at }
+fn whole_row<T: PairText<N>, const N: usize>(
+    s: SoundState,
+    row: [u64; NUM_CPU_COLS],
+    out: &mut TextBuffer<N>,
+) -> SoundState
+    requires { length out.old + pair_bytes ≤ N }
+    ensures { Gives (row_of T.text s.state row) result.state out.old out.new }
 {
-    if s.rows >= MAX_ROWS {
-        return refuse(s, ROW_LENGTH, out, at);
+    if s.state.rows >= MAX_ROWS {
+        return refuse(s, Refusal::RowLength, out);
     }
     if !checks::canonical(&row) {
-        return refuse(s, ROW_CONTENTS, out, at);
+        return refuse(s, Refusal::RowContents, out);
     }
-    accept(text, s, row, out, at)
+    accept::<T, N>(s, row, out)
 }
 
+#[tactic(auto, unfolding(stream_model::specs::Model::end_of))]
 // The end of the input: the last pair returns to the first row.
-fn finish(text: Text, s: State, out: &mut [u8], at: usize) -> Step
-    requires room { at + pair_bytes ≤ length out.old }
-    requires sound { Sound s }
-    ensures { Gives (end_of (text_by text) s) result out.old out.new at }
+fn finish<T: PairText<N>, const N: usize>(s: SoundState, out: &mut TextBuffer<N>) -> SoundState
+    requires { length out.old + pair_bytes ≤ N }
+    ensures { Gives (end_of T.text s.state) result.state out.old out.new }
 {
-    if s.rows == 0 {
-        return refuse(s, ROW_LENGTH, out, at);
+    if s.state.rows == 0 {
+        return refuse(s, Refusal::RowLength, out);
     }
-    let first = s.first;
-    let next = pair_text(text, s, &first, 0, out, at);
-    let mut state = s;
-    state.running = false;
-    Step { state, next }
+    put_pair::<T, N>(&s, &Row::lend(&s.state.first), Residue::ZERO, out);
+    let mut last = s;
+    last.state.running = false;
+    last
 }
 
+#[tactic(auto, unfolding(stream_model::specs::Model::feed_of))]
 // The step on what was read for a row: fewer bytes than a row has where the input ends, none at its end.
-pub fn feed(text: Text, s: State, bytes: &[u8], out: &mut [u8], at: usize) -> Step
-    requires room { at + pair_bytes ≤ length out.old }
-    requires sound { Sound s }
-    ensures gives { Gives (feed_of (text_by text) s bytes.now) result out.old out.new at }
-    ensures onward { Onward 1 s result.state }
+pub fn feed<T: PairText<N>, const N: usize>(
+    s: SoundState,
+    bytes: &[u8],
+    out: &mut TextBuffer<N>,
+) -> SoundState
+    requires { length out.old + pair_bytes ≤ N }
+    ensures gives { Gives (feed_of T.text s.state bytes.now) result.state out.old out.new }
+    ensures onward { Onward 1 s.state result.state }
 {
-    if bytes.len() == 0 {
-        return finish(text, s, out, at);
+    if bytes.is_empty() {
+        return finish::<T, N>(s, out);
     }
     if bytes.len() == ROW_BYTES {
         let mut row = [0u64; NUM_CPU_COLS];
         words::decode(bytes, &mut row);
-        return whole_row(text, s, row, out, at);
+        return whole_row::<T, N>(s, row, out);
     }
-    refuse(s, ROW_LENGTH, out, at)
+    refuse(s, Refusal::RowLength, out)
 }
 
 // The state before the masks are read.
-fn blank() -> State
-    ensures { result ≡ blank_state }
+fn blank() -> SoundState
+    ensures { result.state ≡ blank_state }
 {
-    State {
-        masks: [0u64; NUM_MASKS],
-        first: [0u64; NUM_CPU_COLS],
-        previous: [0u64; NUM_CPU_COLS],
-        rows: 0,
-        running: false,
+    SoundState {
+        state: State {
+            masks: [0u64; NUM_MASKS],
+            first: [0u64; NUM_CPU_COLS],
+            previous: [0u64; NUM_CPU_COLS],
+            rows: 0,
+            running: false,
+        },
     }
 }
 
+#[tactic(auto, unfolding(stream_model::specs::Model::masks_of))]
 // All 25 masks.
-fn with_masks(masks: [u64; NUM_MASKS], out: &mut [u8]) -> Step
-    requires room { pair_bytes ≤ length out.old }
-    ensures { Gives (masks_of masks) result out.old out.new 0 }
+fn with_masks<const N: usize>(masks: [u64; NUM_MASKS], out: &mut TextBuffer<N>) -> SoundState
+    requires { length out.old + pair_bytes ≤ N }
+    ensures { Gives (masks_of masks) result.state out.old out.new }
 {
-    let mut state = blank();
-    if checks::mask_contents(&masks) {
-        return refuse(state, MASK_CONTENTS, out, 0);
+    let mut next = blank();
+    if let Err(refusal) = checks::masks(&masks) {
+        return refuse(next, refusal, out);
     }
-    state.masks = masks;
-    state.running = true;
-    Step { state, next: 0 }
+    next.state.masks = masks;
+    next.state.running = true;
+    next
 }
 
-// The step on what was read for the masks: fewer bytes than they have where the input ends. What it prints stands at the start of
-// the buffer.
-pub fn start(bytes: &[u8], out: &mut [u8; PAIR_BYTES]) -> Step
-    ensures gives { Gives (start_of bytes.now) result out.old out.new 0 }
-    ensures sound { Sound result.state }
+#[tactic(auto, unfolding(stream_model::specs::Model::start_of))]
+// The step on what was read for the masks: fewer bytes than they have where the input ends.
+pub fn start<const N: usize>(bytes: &[u8], out: &mut TextBuffer<N>) -> SoundState
+    requires { length out.old + pair_bytes ≤ N }
+    ensures { Gives (start_of bytes.now) result.state out.old out.new }
 {
     if bytes.len() == MASK_BYTES {
         let mut masks = [0u64; NUM_MASKS];
         words::decode(bytes, &mut masks);
         return with_masks(masks, out);
     }
-    refuse(blank(), MASK_COUNT, out, 0)
+    refuse(blank(), Refusal::MaskCount, out)
 }

@@ -1,5 +1,2 @@
 pub mod Numbers
-pub mod Called
-pub mod Rows
-pub mod Shared
 pub mod Zero

@@ -1,5 +1,4 @@
--- A row of zeros is a row, as the core asks. It is listed where a proof searches for what the evaluation asks of its rows, so that the zero
--- row's values for every pair are refused as values, and not for what they ask.
+-- A row of zeros is a row, as the core asks.
 use mathlib.Core.Path.{refl}
 use Prim.Native.Nat.{ℕ, zero, suc, ◌<◌}
 use lib.ListN.{get_or, replicate}

@@ -2,7 +2,6 @@ pub mod Columns
 pub mod Masks
 pub mod Cells
 pub mod Rows
-pub mod Shared
 pub mod Entry
 pub mod CpuStark
 pub mod SimpleArithmaticOp

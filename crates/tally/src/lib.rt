@@ -5,6 +5,7 @@ ghost use Rattle.std.specs.Prelude.{◌≡◌};
 ghost use Rattle.tally.specs.Tally.{tally_of};
 
 // How many values are not 0, and the number of the first, counted from 1; 0 where there is none.
+// Kept: what is reported of a pair, by C too, is "lowest such number or 0" (document 01), so no Option.
 #[derive(Clone, Copy)]
 pub struct Tally {
     pub count: u64,
@@ -15,17 +16,15 @@ pub struct Tally {
 pub fn count_nonzero(values: &[u64]) -> Tally
     ensures { result ≡ tally_of values.now }
 {
-    let mut count: u64 = 0;
-    let mut lowest: u64 = 0;
-    let mut i = 0;
-    while i < values.len() {
-        if values[i] != 0 {
+    let mut count = 0u64;
+    let mut lowest = 0u64;
+    for (i, value) in values.iter().enumerate() {
+        if *value != 0 {
             count += 1;
             if lowest == 0 {
                 lowest = i as u64 + 1;
             }
         }
-        i += 1;
     }
     Tally { count, lowest }
 }

@@ -1,0 +1,8 @@
+-- `judge_plain::plain_flags` meets its contract.
+use Rattle.rulebook.specs.Plain.{bits, plain_flags, pair_plain}
+use Rattle.judge_columns.proofs.Rules.{bools}
+use Rattle.judge_plain.proofs.plain_flags.Goals as goal
+
+pub returns : goal.returns
+unfolding pair_plain plain_flags bits
+returns c = rw (c.bits.ensures.value, c.ones.ensures) (simp bools cc)
