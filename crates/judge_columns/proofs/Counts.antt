@@ -1,8 +1,8 @@
 -- How a loop goes through a run of columns.
-use Prim.Native.Nat.{ℕ, zero, suc, ◌+◌, ◌-◌, ◌<◌}
+use Prim.Native.Nat.{ℕ, suc, ◌+◌, ◌-◌, ◌<◌}
 use native.Mathlib.Omega.{arith}
 use mathlib.Core.Path.{◌≡◌, sym, ◌∙◌}
-use mathlib.Core.Bool.{Bool, true, false, cond}
+use mathlib.Core.Bool.{cond}
 use lib.Dec.{eqb}
 use borrow.Author.Tests.{ne_eqb}
 use Rattle.rulebook.specs.Kind.{ones, first_one}
@@ -45,12 +45,6 @@ module _ (g : ℕ → ℕ) (a n : ℕ) where
       let d : n - 0 ≡ n = omega arith in
       rw (e, d) (omega arith)
 
-  pub first_one-none : first_one g a n ≡ 0 + first_one g (a + 0) (n - 0)
-  first_one-none =
-      let e : a + 0 ≡ a = omega arith in
-      let d : n - 0 ≡ n = omega arith in
-      rw (e, d) (omega arith)
-
   pub ones_all : (s count i : ℕ) → n - i ≡ 0 → s ≡ count + ones g (a + i) (n - i) → count ≡ s
   unfolding ones
   ones_all s count i e k = sym (k ∙ rw e (omega arith))
@@ -58,16 +52,3 @@ module _ (g : ℕ → ℕ) (a n : ℕ) where
   pub first_one_all : (s i : ℕ) → n - i ≡ 0 → s ≡ i + first_one g (a + i) (n - i) → i ≡ s
   unfolding first_one
   first_one_all s i e k = sym (k ∙ rw e (omega arith))
-
--- where one is 1, there is a first
-pub first_below : (g : ℕ → ℕ) (a n : ℕ) → ones g a n ≡ 1 → first_one g a n < n
-unfolding ones first_one
-first_below g a zero e = absurd (omega arith)
-first_below g a (suc n) e = go (eqb (g a) 1) e (λ d. first_below g (suc a) n d)
-  where
-    go : (b : Bool) → cond b 1 0 + ones g (suc a) n ≡ 1 → (ones g (suc a) n ≡ 1 → first_one g (suc a) n < n)
-        → cond b 0 (suc (first_one g (suc a) n)) < suc n
-    go true d h = omega arith
-    go false d h =
-        let l : first_one g (suc a) n < n = h (omega arith) in
-        omega arith
