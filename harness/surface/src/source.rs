@@ -55,6 +55,8 @@ impl<'a> Reader<'a> {
                     return self.group();
                 }
                 "#" => self.group()?,
+                // `pub(super)` is for the crate alone.
+                "pub" if self.peek() == Some("(") => self.group()?,
                 "pub" => is_public = true,
                 "extern" if self.peek() == Some("\"C\"") => self.at += 1,
                 // A ghost import, or a member of a trait or of what stands for it at a type.
@@ -86,11 +88,13 @@ impl<'a> Reader<'a> {
     /// The items of an impl block: `impl<'a> Type<'a> { .. }` or `impl<'a> Trait for Type<'a> { .. }`.
     fn methods(&mut self) -> Result<(), String> {
         let first = self.type_name()?;
+        let behind = self.at;
         let prefix = match self.head()? {
             true => {
+                let parameters = self.tokens[behind..self.at - 1].concat();
                 let name = self.type_name()?;
                 self.head()?;
-                format!("<{name} as {first}{OPERATION}")
+                format!("<{name} as {first}{parameters}{OPERATION}")
             }
             false => format!("{first}::"),
         };
