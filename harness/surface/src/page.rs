@@ -78,7 +78,10 @@ fn list(cell: &str) -> Option<Vec<String>> {
     if cell.is_empty() {
         return Some(Vec::new());
     }
-    let is_name = |name: &&str| !name.is_empty() && !name.contains([' ', '`']);
+    // `<Type as Trait>::name` alone has spaces.
+    let is_name = |name: &&str| {
+        !name.is_empty() && !name.contains('`') && (name.starts_with('<') || !name.contains(' '))
+    };
     let bare = |mark: &str| {
         let name = mark.strip_prefix('`')?.strip_suffix('`');
         name.filter(is_name).map(str::to_owned)
