@@ -3,7 +3,7 @@
 -- (`judged_iff_zeros`).
 use mathlib.Core.Path.{◌≡◌, refl, sym, ap, ◌∙◌}
 use mathlib.Core.Logic.{◌↔◌}
-use mathlib.Core.Bool.{Bool, true, false, cond, true≢false}
+use mathlib.Core.Bool.{Bool, true, false, true≢false}
 use mathlib.Core.List.{List, [], ◌∷◌, ◌++◌}
 use Prim.Native.Nat.{ℕ, zero, suc, ◌≤◌}
 use native.Mathlib.Omega.{arith}
@@ -11,15 +11,18 @@ use lib.ListN.{length, drop, take, replicate, length-replicate}
 use lib.Seq.{take_at}
 use borrow.Author.Tests.{lt-ltb, le-ltb, eq-eqb}
 use Rattle.algebra.specs.Lists.{All}
-use Rattle.refusals.specs.Refusal.{canonical, unless}
+use Rattle.refusals.specs.declared.Refusal.{Refusal}
+use Rattle.refusals.specs.Refusal.{canonical, unless, refused}
 use Rattle.table.specs.Table.{pair_values}
 use Rattle.pair_checks.specs.PairValues.{pair_values_refusal, pair_values_buffer}
 use Rattle.rulebook.specs.Plain.{is_first, is_last, pair_keeps}
 use Rattle.theorems.specs.Demand3.{Given}
 use Rattle.rulebook.proofs.Pair.{values-count}
 use Rattle.theorems.proofs.Demand3.{canonical_of, keeps_iff_zeros}
-use Rattle.answers.specs.declared.Verdict.TheVariants.{Keeps, Breaks, Refused}
-use Rattle.answers.specs.Verdict.{keeps_of}
+use Rattle.answers.specs.declared.Verdict.TheVariants.{Keeps}
+use Rattle.answers.specs.declared.Verdict.{Verdict}
+use Rattle.answers.specs.Verdict.{keeps_of, judged}
+use Rattle.std.specs.Prelude.{Result, Ok}
 use Rattle.judge.specs.Verdict.{judge_refusal, verdict_of}
 
 -- zeros, listed
@@ -37,11 +40,11 @@ all_zeros n e = rw e (zeros n)
     zeros (suc n) = (refl, zeros n)
 
 -- the verdict "keeps"
-keeps-is : (b : Bool) → b ≡ true → cond b Keeps Breaks ≡ Keeps
+keeps-is : (b : Bool) → b ≡ true → ◌≡◌ {A = Result Verdict Refusal} (Ok (judged b)) (Ok Keeps)
 keeps-is true h = refl
 keeps-is false h = absurd (true≢false (sym h))
 
-is-keeps : (b : Bool) → cond b Keeps Breaks ≡ Keeps → b ≡ true
+is-keeps : (b : Bool) → ◌≡◌ {A = Result Verdict Refusal} (Ok (judged b)) (Ok Keeps) → b ≡ true
 is-keeps true e = refl
 is-keeps false e = absurd (let z : ◌≡◌ {A = ℕ} 0 1 = ap keeps_of e in omega arith)
 
@@ -61,9 +64,9 @@ module _ (masks lv nv : List ℕ) (z f : ℕ) (given : Given masks lv nv z f) wh
         given.plain,
       )
 
-  judged : verdict_of masks lv nv (is_first f) (is_last z) ≡ cond (pair_keeps masks lv nv (is_first f) (is_last z)) Keeps Breaks
+  answered : verdict_of masks lv nv (is_first f) (is_last z) ≡ Ok (judged (pair_keeps masks lv nv (is_first f) (is_last z)))
   unfolding verdict_of
-  judged = ap (λ (n : ℕ). unless n Refused (cond (pair_keeps masks lv nv (is_first f) (is_last z)) Keeps Breaks)) not_refused
+  answered = ap (λ (n : ℕ). unless n refused (Ok (judged (pair_keeps masks lv nv (is_first f) (is_last z))))) not_refused
 
   module _ (out : List ℕ) (room : 226 ≤ length out) where
     accepted-values : pair_values_refusal masks lv nv z f (length out) ≡ 0
@@ -87,18 +90,18 @@ module _ (masks lv nv : List ℕ) (z f : ℕ) (given : Given masks lv nv z f) wh
     unfolding pair_values_buffer
     written = simp (eq-eqb _ _ accepted-values)
 
-    zeros_of_keeps : verdict_of masks lv nv (is_first f) (is_last z) ≡ Keeps → pair_values_buffer masks lv nv z f out ≡ replicate 226 0 ++ drop 226 out
+    zeros_of_keeps : verdict_of masks lv nv (is_first f) (is_last z) ≡ Ok Keeps → pair_values_buffer masks lv nv z f out ≡ replicate 226 0 ++ drop 226 out
     zeros_of_keeps e =
         written
         ∙ ap (λ (vs : List ℕ). vs ++ drop 226 out) (zeros-are 226 (pair_values masks lv nv z f) (values-count masks lv nv z f)
-        ((keeps_iff_zeros masks lv nv z f given).0 (is-keeps (pair_keeps masks lv nv (is_first f) (is_last z)) (sym judged ∙ e))))
+        ((keeps_iff_zeros masks lv nv z f given).0 (is-keeps (pair_keeps masks lv nv (is_first f) (is_last z)) (sym answered ∙ e))))
 
-    keeps_of-zeros : pair_values_buffer masks lv nv z f out ≡ replicate 226 0 ++ drop 226 out → verdict_of masks lv nv (is_first f) (is_last z) ≡ Keeps
+    keeps_of-zeros : pair_values_buffer masks lv nv z f out ≡ replicate 226 0 ++ drop 226 out → verdict_of masks lv nv (is_first f) (is_last z) ≡ Ok Keeps
     keeps_of-zeros e =
-        judged
+        answered
         ∙ keeps-is (pair_keeps masks lv nv (is_first f) (is_last z))
         ((keeps_iff_zeros masks lv nv z f given).1
         (all_zeros 226 (sym (take_at (pair_values masks lv nv z f) (drop 226 out) 226 (values-count masks lv nv z f)) ∙ ap (take 226) (sym written ∙ e) ∙ take_at (replicate 226 0) (drop 226 out) 226 (length-replicate {A = ℕ} 226 0))))
 
-    pub judged_iff_zeros : (verdict_of masks lv nv (is_first f) (is_last z) ≡ Keeps) ↔ (pair_values_buffer masks lv nv z f out ≡ replicate 226 0 ++ drop 226 out)
+    pub judged_iff_zeros : (verdict_of masks lv nv (is_first f) (is_last z) ≡ Ok Keeps) ↔ (pair_values_buffer masks lv nv z f out ≡ replicate 226 0 ++ drop 226 out)
     judged_iff_zeros = (zeros_of_keeps, keeps_of-zeros)

@@ -16,7 +16,7 @@ use Rattle.run_pairs.specs.Run.{row_at, row_count, is_last_pair, next_row_index,
 use Rattle.run_pairs.proofs.Parts.{accepted, some-row, row_is}
 use Rattle.runs.specs.Report.{failing, spot_from, report_of}
 use Rattle.runs.proofs.Found.{report_done}
-use Rattle.answers.specs.declared.Report.{Report}
+use Rattle.answers.specs.Report.{Report}
 use Rattle.answers.specs.declared.Spot.{Spot}
 use Rattle.answers.specs.declared.Spot.TheVariants.{Clean, At}
 use Rattle.answers.specs.Spot.{found}

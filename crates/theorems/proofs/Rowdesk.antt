@@ -8,7 +8,7 @@ use lib.Dec.{eqb}
 use Rattle.tally.specs.Tally.{nonzeros, first_from}
 use Rattle.run_pairs.specs.Run.{pairs_of, run_refusal}
 use Rattle.runs.specs.Report.{failing, spot_from, report_of}
-use Rattle.answers.specs.declared.Report.{Report}
+use Rattle.answers.specs.Report.{Report}
 use Rattle.answers.specs.declared.Spot.{Spot}
 use Rattle.answers.specs.declared.Spot.TheVariants.{At}
 use Rattle.runs.proofs.Found.{report_done}

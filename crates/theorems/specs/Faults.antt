@@ -1,7 +1,7 @@
 -- What the program faults prints on an accepted run, beside the run's report (document 02, 1/12).
 use Rattle.std.specs.Prelude.{◌≡◌, ◌↔◌, List, [], ℕ, ◌-◌}
 use Rattle.algebra.specs.Lists.{Mem}
-use Rattle.answers.specs.declared.Report.{Report}
+use Rattle.answers.specs.Report.{Report}
 use Rattle.answers.specs.declared.Spot.TheVariants.{Clean}
 use Rattle.field_signed.specs.Signed.{residue_of}
 use Rattle.stream_text.specs.Faults.{Fault, faults_from, faults_text, faults_of_pair}
