@@ -57,6 +57,7 @@ fn ask_one(rt: HostRuntime, words: &str, alpha: u64, acc: u64) -> Result<(), Ref
 }
 
 // "0, 1, 8, 9 alphas"   (document 01)
+#[tactic(auto, using(crate::proofs::Answers::told_by_number), unfolding(pair_fold_checks::specs::PairFold::pair_fold_refusal, refusals::specs::Refusal::canonical, refusals::specs::Refusal::distinct))]
 fn counts(rt: HostRuntime) {
     check::expect(ask_count(rt, "0 alphas", 0) == Err(Refusal::AlphaCount));
     check::expect(ask_count(rt, "1 alpha", 1) == Ok(()));
@@ -65,6 +66,7 @@ fn counts(rt: HostRuntime) {
 }
 
 // "p−1 and p"   (document 01)
+#[tactic(auto, using(crate::proofs::Answers::told_by_number), unfolding(pair_fold_checks::specs::PairFold::pair_fold_refusal, refusals::specs::Refusal::canonical, refusals::specs::Refusal::distinct))]
 fn limits(rt: HostRuntime) {
     check::expect(ask_one(rt, "an alpha p - 1", P - 1, 0) == Ok(()));
     check::expect(ask_one(rt, "an alpha p", P, 0) == Err(Refusal::NotBelowP));

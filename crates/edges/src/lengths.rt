@@ -40,6 +40,7 @@ fn end(entry: u64) -> [u64; NUM_CPU_COLS]
 }
 
 // "TLOAD lengths: OP0 1, OP1 7 give 7; 0, 7 give 1; 2, 3 give 5. END length: entry 1 gives 0, entry 0 gives 1."   (document 01)
+#[tactic(auto, unfolding(row_values::specs::RowValue::row_value, refusals::specs::Refusal::canonical, algebra::specs::Expr::eval, residue::specs::Residues::add_p, residue::specs::Residues::neg_p, residue::specs::Residues::mul_p, table::specs::CpuStark::lv_ext_length))]
 pub fn worked(rt: HostRuntime) {
     check::expect(ask(rt, "TLOAD, OP0 1, OP1 7", &tload(1, 7)) == Ok(7));
     check::expect(ask(rt, "TLOAD, OP0 0, OP1 7", &tload(0, 7)) == Ok(1));

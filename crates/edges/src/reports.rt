@@ -31,6 +31,7 @@ fn ask(rt: HostRuntime, words: &str, run: &[u64]) -> Result<Report, Refusal>
 }
 
 // "0, 1 .. rows"   (document 01)
+#[tactic(auto, using(crate::proofs::Answers::told_reports))]
 pub fn edges(rt: HostRuntime) {
     let run = [0u64; NUM_CPU_COLS];
     check::expect(ask(rt, "report of 0 rows", &run[0..0]) == Err(Refusal::RowLength));

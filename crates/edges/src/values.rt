@@ -124,6 +124,7 @@ fn ask(
 }
 
 // "225 and 226 buffer values"   (document 01)
+#[tactic(auto, using(crate::proofs::Answers::told_by_number), unfolding(pair_checks::specs::PairValues::pair_values_refusal, refusals::specs::Refusal::canonical, refusals::specs::Refusal::distinct))]
 fn buffers(rt: HostRuntime) {
     check::expect(
         ask(rt, "a buffer of 225 values", 0, 0, 0, 0, 1, 225) == Err(Refusal::ValueBuffer),
@@ -132,6 +133,7 @@ fn buffers(rt: HostRuntime) {
 }
 
 // "p−1 and p"   (document 01), in each place that the entry takes a number
+#[tactic(auto, using(crate::proofs::Answers::told_by_number), unfolding(pair_checks::specs::PairValues::pair_values_refusal, refusals::specs::Refusal::canonical, refusals::specs::Refusal::distinct))]
 fn limits(rt: HostRuntime) {
     check::expect(ask(rt, "a mask p - 1", P - 1, 0, 0, 0, 1, 226) == Ok(()));
     check::expect(ask(rt, "a mask p", P, 0, 0, 0, 1, 226) == Err(Refusal::MaskContents));
