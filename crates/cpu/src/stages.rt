@@ -13,8 +13,20 @@ pub fn eval_packed_generic(pair: &Pair, out: &mut [u64])
     requires { length out.old ≡ 226 }
     ensures { out.new ≡ pair_values pair.now.masks pair.now.lv pair.now.nv pair.now.z_last pair.now.lagrange_basis_first }
 {
-    eval_context(pair, &mut out[0..82]);
-    eval_instruction(pair, &mut out[82..144]);
-    eval_flow(pair, &mut out[144..159]);
-    eval_opcodes(pair, &mut out[159..226]);
+    eval_context(
+        &pair.lv,
+        &pair.nv,
+        pair.z_last,
+        pair.lagrange_basis_first,
+        &mut out[0..82],
+    );
+    eval_instruction(&pair.lv, &pair.nv, &pair.masks, &mut out[82..144]);
+    eval_flow(&pair.lv, &pair.nv, pair.z_last, &mut out[144..159]);
+    eval_opcodes(
+        &pair.lv,
+        &pair.nv,
+        &pair.masks,
+        pair.z_last,
+        &mut out[159..226],
+    );
 }

@@ -1,8 +1,8 @@
 -- How a loop goes through a run of columns.
-use Prim.Native.Nat.{ℕ, zero, suc, ◌+◌, ◌-◌, ◌<◌}
+use Prim.Native.Nat.{ℕ, suc, ◌+◌, ◌-◌, ◌<◌}
 use native.Mathlib.Omega.{arith}
 use mathlib.Core.Path.{◌≡◌, sym, ◌∙◌}
-use mathlib.Core.Bool.{Bool, true, false, cond}
+use mathlib.Core.Bool.{cond}
 use lib.Dec.{eqb}
 use borrow.Author.Tests.{ne_eqb}
 use Rattle.rulebook.specs.Kind.{ones, first_one}
@@ -15,9 +15,20 @@ module _ (g : ℕ → ℕ) (a n i : ℕ) (h : i < n) where
   there : suc (a + i) ≡ a + (i + 1)
   there = omega arith
 
+  ones-at : ones g (a + i) (n - i) ≡ cond (eqb (g (a + i)) 1) 1 0 + ones g (a + (i + 1)) (n - (i + 1))
+  unfolding ones
+  ones-at = rw (here, there)
+
   first_one-at : first_one g (a + i) (n - i) ≡ cond (eqb (g (a + i)) 1) 0 (suc (first_one g (a + (i + 1)) (n - (i + 1))))
   unfolding first_one
   first_one-at = rw (here, there)
+
+  -- a turn of a loop that counts those that are 1
+  pub ones-one : (s count : ℕ) → g (a + i) ≡ 1 → s ≡ count + ones g (a + i) (n - i) → s ≡ count + 1 + ones g (a + (i + 1)) (n - (i + 1))
+  ones-one s count e k = k ∙ rw (ones-at, e) (omega arith)
+
+  pub ones_other : (s count : ℕ) → (g (a + i) ≡ 1 → ⊥) → s ≡ count + ones g (a + i) (n - i) → s ≡ count + ones g (a + (i + 1)) (n - (i + 1))
+  ones_other s count e k = k ∙ rw (ones-at, ne_eqb _ _ e) (omega arith)
 
   -- a turn of a loop that looks for the first that is 1
   pub first_one_here : (s : ℕ) → g (a + i) ≡ 1 → s ≡ i + first_one g (a + i) (n - i) → s ≡ i
@@ -26,21 +37,18 @@ module _ (g : ℕ → ℕ) (a n i : ℕ) (h : i < n) where
   pub first_one_later : (s : ℕ) → (g (a + i) ≡ 1 → ⊥) → s ≡ i + first_one g (a + i) (n - i) → s ≡ i + 1 + first_one g (a + (i + 1)) (n - (i + 1))
   first_one_later s e k = k ∙ rw (first_one-at, ne_eqb _ _ e) (omega arith)
 
--- behind the last turn
+-- before the first turn, and behind the last
 module _ (g : ℕ → ℕ) (a n : ℕ) where
+  pub ones_none : ones g a n ≡ 0 + ones g (a + 0) (n - 0)
+  ones_none =
+      let e : a + 0 ≡ a = omega arith in
+      let d : n - 0 ≡ n = omega arith in
+      rw (e, d) (omega arith)
+
+  pub ones_all : (s count i : ℕ) → n - i ≡ 0 → s ≡ count + ones g (a + i) (n - i) → count ≡ s
+  unfolding ones
+  ones_all s count i e k = sym (k ∙ rw e (omega arith))
+
   pub first_one_all : (s i : ℕ) → n - i ≡ 0 → s ≡ i + first_one g (a + i) (n - i) → i ≡ s
   unfolding first_one
   first_one_all s i e k = sym (k ∙ rw e (omega arith))
-
--- where one is 1, there is a first
-pub first_below : (g : ℕ → ℕ) (a n : ℕ) → ones g a n ≡ 1 → first_one g a n < n
-unfolding ones first_one
-first_below g a zero e = absurd (omega arith)
-first_below g a (suc n) e = go (eqb (g a) 1) e (λ d. first_below g (suc a) n d)
-  where
-    go : (b : Bool) → cond b 1 0 + ones g (suc a) n ≡ 1 → (ones g (suc a) n ≡ 1 → first_one g (suc a) n < n)
-        → cond b 0 (suc (first_one g (suc a) n)) < suc n
-    go true d h = omega arith
-    go false d h =
-        let l : first_one g (suc a) n < n = h (omega arith) in
-        omega arith

@@ -1,17 +1,15 @@
--- What a run of columns answers, asked column by column: that every rule of the run holds, or how many are 1.
+-- What a run of columns answers, asked column by column: that every rule of the run holds.
 use Prim.Native.Nat.{ℕ, zero, suc, ◌+◌}
-use native.Mathlib.Nat.{add-zero, zero-add, add_assoc}
 use native.Mathlib.Numerals.{add-one}
 use mathlib.Core.Path.{◌≡◌, refl, sym, ap, ◌∙◌}
-use mathlib.Core.Bool.{Bool, true, ◌&&◌, ◌||◌, cond, and-true, and_assoc}
+use mathlib.Core.Bool.{Bool, true, ◌&&◌, ◌||◌, and-true, and_assoc}
 use lib.Dec.{eqb}
-use Rattle.std.specs.List.{fold, range_with_len, count_by}
+use Rattle.std.specs.List.{fold, range_with_len}
 use Rattle.algebra.specs.Lists.{range}
 use mathlib.Core.List.{List, []}
 use Rattle.algebra.specs.Expr.{eval}
 use Rattle.table.specs.Cells.{Cell, cells, lv, nv}
 use Rattle.rulebook.specs.Rule.{Rule, ◌≐◌, ◌⇒◌, holds}
-use Rattle.rulebook.specs.Kind.{ones}
 use Rattle.rulebook.specs.Plain.{bits}
 use Rattle.rulebook.specs.Words.{on, every}
 
@@ -41,16 +39,6 @@ bits-asked g b a (suc n) =
 
 pub bits_run : (g : ℕ → ℕ) (a n : ℕ) → fold (λ all c. all && (eqb (g c) 0 || eqb (g c) 1)) true (range_with_len a n) ≡ bits g (range a n)
 bits_run g a n = bits-asked g true a n
-
-counted : (g : ℕ → ℕ) (b a n : ℕ) → fold (λ s c. s + cond (eqb (g c) 1) 1 0) b (range_with_len a n) ≡ b + ones g a n
-unfolding ones
-counted g b a zero = sym (add-zero b)
-counted g b a (suc n) =
-    rw add-one (counted g (b + cond (eqb (g a) 1) 1 0) (suc a) n)
-    ∙ add_assoc b (cond (eqb (g a) 1) 1 0) (ones g (suc a) n)
-
-pub ones_run : (g : ℕ → ℕ) (a n : ℕ) → count_by (λ c. eqb (g c) 1) (range_with_len a n) ≡ ones g a n
-ones_run g a n = counted g 0 a n ∙ zero-add (ones g a n)
 
 -- registers of the current row, lent as those of the next
 pub chosen_current : (l : List ℕ) (s o : ℕ) →

@@ -30,11 +30,6 @@ length-tabulate f i zero = refl
 length-tabulate f i (suc k) = ap suc (length-tabulate f (suc i) k)
 
 module _ (f : ℕ → List ℕ) (n : ℕ) where
-  pub found_none : Found f n 0 0 Clean
-  found_none =
-      let e : n - 0 ≡ n = omega arith in
-      record { within = omega arith; few = omega arith; counts = rw e (omega arith); clean = λ _. refl; first = rw e }
-
   tabulate-at : (i : ℕ) → i < n → tabulate f i (n - i) ≡ f i ∷ tabulate f (i + 1) (n - (i + 1))
   unfolding tabulate
   tabulate-at i h =

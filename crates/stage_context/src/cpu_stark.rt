@@ -16,45 +16,40 @@ use cpu_tx_init::tx_init::{
 };
 use cpu_wrapper::counted_row::CountedRow;
 use parts::put;
-use table::{Pair, Row};
+use residue::Residue;
+use table::Row;
 
-pub fn constraint_tx_init(pair: &Pair, out: &mut [u64])
+pub fn constraint_tx_init(
+    lv: &Row,
+    nv: &Row,
+    z_last: Residue,
+    lagrange_basis_first: Residue,
+    out: &mut [u64],
+)
     requires { length out.old ≡ 31 }
     ensures { out.new
-        ≡ values residues (cells [] pair.now.lv pair.now.nv pair.now.z_last pair.now.lagrange_basis_first) constraint_tx_init }
+        ≡ values residues (cells [] lv.now nv.now z_last lagrange_basis_first) constraint_tx_init }
 {
     put(
         &mut out[0..5],
-        &tx_init_first_line_head(&pair.lv, pair.lagrange_basis_first),
+        &tx_init_first_line_head(lv, lagrange_basis_first),
     );
     put(
         &mut out[5..15],
-        &tx_init_first_line_regs(&pair.lv, pair.lagrange_basis_first),
+        &tx_init_first_line_regs(lv, lagrange_basis_first),
     );
-    put(
-        &mut out[15..21],
-        &tx_init_each_tx_head(&pair.lv, &pair.nv, pair.z_last),
-    );
-    put(
-        &mut out[21..31],
-        &tx_init_each_tx_regs(&pair.lv, &pair.nv, pair.z_last),
-    );
+    put(&mut out[15..21], &tx_init_each_tx_head(lv, nv, z_last));
+    put(&mut out[21..31], &tx_init_each_tx_regs(lv, nv, z_last));
 }
 
 // The constraints that eval_packed_generic yields itself.
-pub fn eval_packed_generic_body(pair: &Pair, out: &mut [u64])
+pub fn eval_packed_generic_body(lv: &Row, nv: &Row, z_last: Residue, out: &mut [u64])
     requires { length out.old ≡ 12 }
-    ensures { out.new ≡ values residues (cells [] pair.now.lv pair.now.nv pair.now.z_last 0) eval_packed_generic_body }
+    ensures { out.new ≡ values residues (cells [] lv.now nv.now z_last 0) eval_packed_generic_body }
 {
-    put(
-        &mut out[0..2],
-        &body_tx_idx(&pair.lv, &pair.nv, pair.z_last),
-    );
-    put(
-        &mut out[2..10],
-        &body_ctx_regs(&pair.lv, &pair.nv, pair.z_last),
-    );
-    put(&mut out[10..12], &body_filter_imm(&pair.lv));
+    put(&mut out[0..2], &body_tx_idx(lv, nv, z_last));
+    put(&mut out[2..10], &body_ctx_regs(lv, nv, z_last));
+    put(&mut out[10..12], &body_filter_imm(lv));
 }
 
 pub fn constraint_ext_lines(counted: &CountedRow, nv: &Row, out: &mut [u64])

@@ -10,21 +10,19 @@ ghost use Rattle.stage_flow.specs.Stage.{flow};
 use cpu_flow::env_unchanged::{constraint_env_unchanged_clk, constraint_env_unchanged_pc};
 use cpu_stark::*;
 use parts::put;
-use table::Pair;
+use residue::Residue;
+use table::Row;
 
 pub mod cpu_stark;
 
 // Values 145 to 159.
 #[tactic(auto, unfolding(algebra::specs::Expr::eval, table::specs::Entry::values, table::specs::Entry::each, crate::specs::Stage::flow, table::specs::CpuStark::constraint_env_unchanged_clk, table::specs::CpuStark::constraint_env_unchanged_pc, table::specs::CpuStark::instruction_size, table::specs::CpuStark::pc_next, table::specs::CpuStark::constraint_reg_consistency, table::specs::CpuStark::dst_reg_changes, table::specs::CpuStark::multi_reg_change, table::specs::CpuStark::fp_consistency))]
-pub fn eval_flow(pair: &Pair, out: &mut [u64])
+pub fn eval_flow(lv: &Row, nv: &Row, z_last: Residue, out: &mut [u64])
     requires { length out.old ≡ 15 }
-    ensures { out.new ≡ values residues (cells [] pair.now.lv pair.now.nv pair.now.z_last 0) flow }
+    ensures { out.new ≡ values residues (cells [] lv.now nv.now z_last 0) flow }
 {
-    let clk = constraint_env_unchanged_clk(&pair.lv, &pair.nv);
+    let clk = constraint_env_unchanged_clk(lv, nv);
     put(&mut out[0..2], &clk);
-    put(
-        &mut out[2..5],
-        &constraint_env_unchanged_pc(&pair.lv, &pair.nv, clk[0]),
-    );
-    constraint_reg_consistency(&pair.lv, &pair.nv, pair.z_last, &mut out[5..15]);
+    put(&mut out[2..5], &constraint_env_unchanged_pc(lv, nv, clk[0]));
+    constraint_reg_consistency(lv, nv, z_last, &mut out[5..15]);
 }

@@ -10,22 +10,23 @@ ghost use Rattle.stage_opcodes.specs.Stage.{opcodes};
 use cpu_factors::FactoredRow;
 use cpu_simple_arithmatic_op::simple_arithmatic_op;
 use parts::put;
-use table::Pair;
+use residue::Residue;
+use table::{Masks, Row};
 
 pub mod call_sc;
 pub mod tape;
 
 // Values 160 to 226.
 #[tactic(auto, unfolding(table::specs::Entry::values, table::specs::Entry::each, crate::specs::Stage::opcodes, table::specs::SimpleArithmaticOp::simple_arithmatic_op, table::specs::SimpleArithmaticOp::is_op, table::specs::Tape::tape, table::specs::Tape::tape_ext_lines, table::specs::Tape::tape_first_ext_line, table::specs::Tape::tape_tp, table::specs::Tape::tape_filter, table::specs::CallSc::call_sc, table::specs::CallSc::call_sc_addresses, table::specs::CallSc::call_sc_operands, table::specs::CallSc::call_sc_cleared_head, table::specs::CallSc::call_sc_cleared_regs, table::specs::CallSc::call_sc_ctx_regs, table::specs::CallSc::call_sc_end, table::specs::CallSc::call_sc_filters, algebra::specs::Expr::eval))]
-pub fn eval_opcodes(pair: &Pair, out: &mut [u64])
+pub fn eval_opcodes(lv: &Row, nv: &Row, masks: &Masks, z_last: Residue, out: &mut [u64])
     requires { length out.old ≡ 67 }
-    ensures { out.new ≡ values residues (cells pair.now.masks pair.now.lv pair.now.nv pair.now.z_last 0) opcodes }
+    ensures { out.new ≡ values residues (cells masks.now lv.now nv.now z_last 0) opcodes }
 {
-    let factored = FactoredRow::new(&pair.lv);
+    let factored = FactoredRow::new(lv);
     put(
         &mut out[0..4],
-        &simple_arithmatic_op::eval_packed_generic(&pair.lv, &pair.masks),
+        &simple_arithmatic_op::eval_packed_generic(lv, masks),
     );
-    tape::eval_packed_generic(&factored, &pair.nv, &mut out[4..25]);
-    call_sc::eval_packed_generic(&factored, &pair.nv, pair.z_last, &mut out[25..67]);
+    tape::eval_packed_generic(&factored, nv, &mut out[4..25]);
+    call_sc::eval_packed_generic(&factored, nv, z_last, &mut out[25..67]);
 }

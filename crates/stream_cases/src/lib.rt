@@ -1,165 +1,76 @@
-// Replays stored cases of a program over masks and rows from standard input. A case is an input and what the plain Rust says must be
-// printed, each with its length in front, eight bytes, low byte first. `harness/run cases` makes them.
+// Replays stored cases of a program over masks and rows from standard input. A case is an input and what the plain Rust
+// says must be printed, each with its length in front, eight bytes, low byte first. `harness/run cases` makes them.
 #![tactic(auto)]
 
-ghost use Rattle.std.specs.Prelude.{◌≡◌, true, ◌≤◌, length};
-ghost use Rattle.stream_text.specs.Text.{text_by};
+ghost use Rattle.std.specs.Prelude.{◌≡◌, true, IfOk};
+ghost use Rattle.io.specs.Counts.{IsPrefixLen};
 ghost use Rattle.stream_model.specs.Model.{output_of};
-ghost use Rattle.stream_cases.specs.Case.{Fits, Stands, part_end_of};
 
+use compared_line::NoCase;
 use stream_model::{MASK_BYTES, ROW_BYTES};
-use stream_text::{PAIR_BYTES, Text};
+use stream_text::{PAIR_BYTES, PairText};
+use text::TextBuffer;
 
-// Longer than the parts of any case, and more cases than any file has.
+// Longer than the parts of any case.
 const MOST_BYTES: usize = 65_536;
-
-const MOST_CASES: u64 = 1_000_000;
 
 const SIZE_BYTES: usize = 8;
 
-// What is read for a part of a case: its bytes, or none of it at the end of the file.
-#[derive(Clone, Copy)]
-enum Size {
-    Bytes(usize),
-    Malformed,
-    End,
-}
-
-// What replaying one case finds.
-#[derive(Clone, Copy)]
-enum Outcome {
-    Agrees,
-    Differs,
-    Malformed,
-    End,
-}
-
-// The text stands in `expected` behind its first `at` bytes.
-fn stands(text: &[u8], expected: &[u8], at: usize) -> bool
-    requires { at ≤ length expected.now }
-    ensures { result ≡ true → Stands text.now expected.now at }
-{
-    if expected.len() - at < text.len() {
-        return false;
-    }
-    let mut i = 0;
-    while i < text.len() {
-        if expected[at + i] != text[i] {
-            return false;
-        }
-        i += 1;
-    }
-    true
-}
-
-// Where a part of at most `size` bytes that starts at `at` ends.
-fn part_end(at: usize, size: usize, all: usize) -> usize
-    requires { at ≤ all }
-    ensures end { result ≡ part_end_of at size all }
-    ensures within { (at ≤ result) × (result ≤ all) }
-{
-    if all - at < size { all } else { at + size }
-}
-
 // The steps of the program, on the input, print what is expected and no more.
-fn agrees(text: Text, input: &[u8], expected: &[u8]) -> bool
-    ensures { result ≡ true → output_of (text_by text) input.now ≡ expected.now }
+fn agrees<T: PairText<PAIR_BYTES>>(input: &[u8], expected: &[u8]) -> bool
+    ensures { result ≡ true → output_of T.text input.now ≡ expected.now }
 {
-    let mut refusal = [0u8; PAIR_BYTES];
-    let mut at = part_end(0, MASK_BYTES, input.len());
-    let first = stream_steps::start(&input[0..at], &mut refusal);
-    let mut state = first.state;
-    let mut printed = first.next;
-    if !stands(&refusal[..printed], expected, 0) {
+    let mut out = TextBuffer::<PAIR_BYTES>::new();
+    let (masks, mut left) = input.split_at(input.len().min(MASK_BYTES));
+    let mut after = stream_steps::start(masks, &mut out);
+    let Some(mut rest) = expected.strip_prefix(out.bytes()) else {
         return false;
-    }
-    while state.running {
-        let end = part_end(at, ROW_BYTES, input.len());
-        let mut out = [0u8; PAIR_BYTES];
-        let step = stream_steps::feed(text, state, &input[at..end], &mut out, 0);
-        let next = step.next;
-        if !stands(&out[..next], expected, printed) {
+    };
+    while after.state.running {
+        let (row, behind) = left.split_at(left.len().min(ROW_BYTES));
+        out.clear();
+        after = stream_steps::feed::<T, PAIR_BYTES>(after, row, &mut out);
+        let Some(tail) = rest.strip_prefix(out.bytes()) else {
             return false;
-        }
-        printed += next;
-        at = end;
-        state = step.state;
+        };
+        left = behind;
+        rest = tail;
     }
-    printed == expected.len()
+    rest.is_empty()
 }
 
 // Reads a part of a case, behind its length, into `part`.
-fn read_part(rt: HostRuntime, part: &mut [u8]) -> Size
-    ensures { Fits result part.new }
+fn read_part(rt: HostRuntime, part: &mut [u8]) -> Result<usize, NoCase>
+    ensures { IfOk result (λ n. IsPrefixLen n part.new) }
 {
     let mut size = [0u8; SIZE_BYTES];
     let got = compared_line::read_full(rt.stdin(), &mut size);
     if got == 0 {
-        return Size::End;
+        return Err(NoCase::End);
     }
-    if got != SIZE_BYTES {
-        return Size::Malformed;
-    }
-    let n = words::word(&size, 0);
-    if n > part.len() as u64 {
-        return Size::Malformed;
+    let n = words::word(&size);
+    if got != SIZE_BYTES || n > part.len() as u64 {
+        return Err(NoCase::Malformed);
     }
     let n = n as usize;
     if compared_line::read_full(rt.stdin(), &mut part[..n]) != n {
-        return Size::Malformed;
+        return Err(NoCase::Malformed);
     }
-    Size::Bytes(n)
-}
-
-// Reads what is expected of the input, and compares.
-fn replay_input(rt: HostRuntime, text: Text, input: &[u8]) -> Outcome {
-    let mut expected = [0u8; MOST_BYTES];
-    match read_part(rt, &mut expected) {
-        Size::Bytes(n) => {
-            if agrees(text, input, &expected[..n]) {
-                Outcome::Agrees
-            } else {
-                Outcome::Differs
-            }
-        }
-        Size::Malformed | Size::End => Outcome::Malformed,
-    }
+    Ok(n)
 }
 
 // Reads a case and replays it.
-fn replay_case(rt: HostRuntime, text: Text) -> Outcome {
+fn replay_case<T: PairText<PAIR_BYTES>>(rt: HostRuntime) -> Result<bool, NoCase> {
     let mut input = [0u8; MOST_BYTES];
-    match read_part(rt, &mut input) {
-        Size::Bytes(n) => replay_input(rt, text, &input[..n]),
-        Size::Malformed => Outcome::Malformed,
-        Size::End => Outcome::End,
-    }
-}
-
-fn print(rt: HostRuntime, cases: u64, differ: u64, fault: &[u8]) {
-    compared_line::print(rt.stdout(), cases, b"cases", differ, fault);
+    let mut expected = [0u8; MOST_BYTES];
+    let n = read_part(rt, &mut input)?;
+    let m = read_part(rt, &mut expected).map_err(|_| NoCase::Malformed)?;
+    Ok(agrees::<T>(&input[..n], &expected[..m]))
 }
 
 // Replays the cases of the program that prints this text of each pair, and prints how many differ.
-pub fn run(rt: HostRuntime, text: Text) {
-    let mut cases: u64 = 0;
-    let mut differ: u64 = 0;
-    while cases < MOST_CASES {
-        match replay_case(rt, text) {
-            Outcome::Agrees => {}
-            Outcome::Differs => {
-                differ += 1;
-            }
-            Outcome::Malformed => {
-                print(rt, cases, differ, b", then a malformed case");
-                return;
-            }
-            Outcome::End => {
-                print(rt, cases, differ, b"");
-                return;
-            }
-        }
-        cases += 1;
-    }
-    print(rt, cases, differ, b", and more follow");
+pub fn run<T: PairText<PAIR_BYTES>>(rt: HostRuntime) {
+    compared_line::compare(rt.stdout(), b"cases", b", then a malformed case", || {
+        replay_case::<T>(rt)
+    });
 }

@@ -37,8 +37,8 @@ fn two_numbers<const N: usize>(a: u64, b: u64, out: &mut TextBuffer<N>)
     out.push_byte(SPACE);
 }
 
-#[tactic(auto, using(text::proofs::Digits::decimal_short), unfolding(stream_text::specs::Lines::line_of))]
 // The line of a pair's count.
+#[tactic(auto, using(text::proofs::Digits::decimal_short), unfolding(stream_text::specs::Lines::line_of))]
 fn line<const N: usize>(index: u64, count: u64, lowest: u64, out: &mut TextBuffer<N>)
     requires { length out.old + 64 ≤ N }
     ensures { out.new ≡ out.old ++ line_of index count lowest }
@@ -48,8 +48,8 @@ fn line<const N: usize>(index: u64, count: u64, lowest: u64, out: &mut TextBuffe
     out.push_byte(LINE_END);
 }
 
-#[tactic(auto, unfolding(stream_text::specs::Lines::refused_of))]
 // The line of a refusal.
+#[tactic(auto, unfolding(stream_text::specs::Lines::refused_of))]
 pub fn refused<const N: usize>(number: u64, out: &mut TextBuffer<N>)
     requires { length out.old + 64 ≤ N }
     ensures { out.new ≡ out.old ++ refused_of number }
@@ -59,8 +59,8 @@ pub fn refused<const N: usize>(number: u64, out: &mut TextBuffer<N>)
     out.push_byte(LINE_END);
 }
 
-#[tactic(auto, using(crate::proofs::Laws::small_put, crate::proofs::Laws::large_put))]
 // The signed form of a residue: at most 19 digits, behind a minus sign where it is negative.
+#[tactic(auto, using(crate::proofs::Laws::small_put, crate::proofs::Laws::large_put))]
 fn put_signed<const N: usize>(value: u64, out: &mut TextBuffer<N>)
     requires room { length out.old + 21 ≤ N }
     requires below { value < p }
@@ -74,8 +74,8 @@ fn put_signed<const N: usize>(value: u64, out: &mut TextBuffer<N>)
     }
 }
 
-#[tactic(auto, using(crate::proofs::Laws::pair_digits, crate::proofs::Laws::number_digits, stream_text::proofs::Short::signed_short), unfolding(stream_text::specs::Faults::fault_line))]
 // The line of a value: at most 5 digits, 3 digits and a signed number of 20 bytes, two spaces and the line's end.
+#[tactic(auto, using(crate::proofs::Laws::pair_digits, crate::proofs::Laws::number_digits, stream_text::proofs::Short::signed_short), unfolding(stream_text::specs::Faults::fault_line))]
 fn fault<const N: usize>(pair: u64, number: u64, value: u64, out: &mut TextBuffer<N>)
     requires room { length out.old + 31 ≤ N }
     requires pair { pair < 65536 }

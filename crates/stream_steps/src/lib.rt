@@ -30,8 +30,8 @@ fn refuse<const N: usize>(s: SoundState, refusal: Refusal, out: &mut TextBuffer<
     last
 }
 
-#[tactic(auto, using(crate::proofs::Laws::pair_few, crate::proofs::Laws::pair_below), unfolding(stream_model::specs::Model::pair_text))]
 // The text of the pair of the previous row and the next.
+#[tactic(auto, using(crate::proofs::Laws::pair_few, crate::proofs::Laws::pair_below), unfolding(stream_model::specs::Model::pair_text))]
 fn put_pair<T: PairText<N>, const N: usize>(
     s: &SoundState,
     next: &Row,
@@ -55,8 +55,8 @@ fn put_pair<T: PairText<N>, const N: usize>(
     T::put(index as u64, &values, out);
 }
 
-#[tactic(auto, unfolding(stream_model::specs::Model::accept_of))]
 // A row that is whole and canonical, and not one too many.
+#[tactic(auto, unfolding(stream_model::specs::Model::accept_of))]
 fn accept<T: PairText<N>, const N: usize>(
     s: SoundState,
     row: [u64; NUM_CPU_COLS],
@@ -80,8 +80,8 @@ fn accept<T: PairText<N>, const N: usize>(
     next
 }
 
-#[tactic(auto, using(crate::proofs::Laws::row_of_canonical), unfolding(stream_model::specs::Model::row_of))]
 // A whole row.
+#[tactic(auto, using(crate::proofs::Laws::row_of_canonical), unfolding(stream_model::specs::Model::row_of))]
 fn whole_row<T: PairText<N>, const N: usize>(
     s: SoundState,
     row: [u64; NUM_CPU_COLS],
@@ -99,8 +99,8 @@ fn whole_row<T: PairText<N>, const N: usize>(
     accept::<T, N>(s, row, out)
 }
 
-#[tactic(auto, unfolding(stream_model::specs::Model::end_of))]
 // The end of the input: the last pair returns to the first row.
+#[tactic(auto, unfolding(stream_model::specs::Model::end_of))]
 fn finish<T: PairText<N>, const N: usize>(s: SoundState, out: &mut TextBuffer<N>) -> SoundState
     requires { length out.old + pair_bytes ≤ N }
     ensures { Gives (end_of T.text s.state) result.state out.old out.new }
@@ -114,8 +114,8 @@ fn finish<T: PairText<N>, const N: usize>(s: SoundState, out: &mut TextBuffer<N>
     last
 }
 
-#[tactic(auto, unfolding(stream_model::specs::Model::feed_of))]
 // The step on what was read for a row: fewer bytes than a row has where the input ends, none at its end.
+#[tactic(auto, unfolding(stream_model::specs::Model::feed_of))]
 pub fn feed<T: PairText<N>, const N: usize>(
     s: SoundState,
     bytes: &[u8],
@@ -151,8 +151,8 @@ fn blank() -> SoundState
     }
 }
 
-#[tactic(auto, unfolding(stream_model::specs::Model::masks_of))]
 // All 25 masks.
+#[tactic(auto, unfolding(stream_model::specs::Model::masks_of))]
 fn with_masks<const N: usize>(masks: [u64; NUM_MASKS], out: &mut TextBuffer<N>) -> SoundState
     requires { length out.old + pair_bytes ≤ N }
     ensures { Gives (masks_of masks) result.state out.old out.new }
@@ -166,8 +166,8 @@ fn with_masks<const N: usize>(masks: [u64; NUM_MASKS], out: &mut TextBuffer<N>) 
     next
 }
 
-#[tactic(auto, unfolding(stream_model::specs::Model::start_of))]
 // The step on what was read for the masks: fewer bytes than they have where the input ends.
+#[tactic(auto, unfolding(stream_model::specs::Model::start_of))]
 pub fn start<const N: usize>(bytes: &[u8], out: &mut TextBuffer<N>) -> SoundState
     requires { length out.old + pair_bytes ≤ N }
     ensures { Gives (start_of bytes.now) result.state out.old out.new }

@@ -72,8 +72,8 @@ impl<const N: usize> TextBuffer<N> {
         self.len += 1;
     }
 
-    #[tactic(auto, using(crate::proofs::Digits::decimal_is, crate::proofs::Digits::decimal_short))]
     // The decimal digits of n, of which there are at most 20.
+    #[tactic(auto, using(crate::proofs::Digits::decimal_is, crate::proofs::Digits::decimal_short))]
     pub fn push_decimal(&mut self, n: u64)
         requires { length self.old + 20 ≤ N }
         ensures digits { self.new ≡ self.old ++ decimal_of n }
