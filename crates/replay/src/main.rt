@@ -1,5 +1,5 @@
-// Replays the stored sample of the Rust's answers. A record is 441 values: 25 masks, the current row, the next row, z_last,
-// lagrange_basis_first, and the 226 values that the Rust gave. The sample is the file stdin, made by
+// Replays the stored sample of the Rust's answers. A record is 441 values: 25 masks, the current row, the next row,
+// z_last, lagrange_basis_first, and the 226 values that the Rust gave. The sample is the file stdin, made by
 // `harness/run sample > crates/replay/stdin`.
 #![tactic(auto)]
 

@@ -1,5 +1,5 @@
-// Reads 25 masks, then rows, from standard input, and prints a line for each pair of rows: how many of its values are not
-// 0.
+// Reads 25 masks, then rows, from standard input, and prints a line for each pair of rows: how many of its values are
+// not 0.
 #![tactic(auto)]
 
 use stream_lines::Counts;

@@ -1,6 +1,6 @@
 -- Every step leads from a sound state to a sound state, and there are not many.
 use mathlib.Core.Path.{◌≡◌, refl, sym, subst}
-use mathlib.Core.Bool.{true, cond, false≢true}
+use mathlib.Core.Bool.{cond, false≢true}
 use mathlib.Core.List.{List}
 use Prim.Native.Nat.{ℕ, ◌-◌, ◌<◌}
 use native.Mathlib.Omega.{arith}
@@ -64,10 +64,6 @@ blank-sound = record {
   few = omega arith;
 }
 
--- how many steps may follow: a step leaves fewer
+-- how many steps may follow
 abbrev pub left : State → ℕ
 left s = cond s.running (65537 - s.rows) 0
-
-pub left_less : (s t : State) → Sound s → s.running ≡ true → Onward 1 s t → left t < left s
-left_less s t k e o =
-    rw e (by_cases (λ (n : ℕ). n < 65537 - s.rows) t.running (λ r. let h = o.rows r in omega (arith, k.few)) (λ _. omega (arith, k.few)))

@@ -1,5 +1,5 @@
-// The reading of a program over masks and rows: from standard input, with the texts of pairs to standard output. A program
-// is a main that names its text, and itself for what it says on standard error.
+// The reading of a program over masks and rows: from standard input, with the texts of pairs to standard output. A
+// program is a main that names its text, and itself for what it says on standard error.
 #![tactic(auto)]
 
 ghost use Rattle.std.specs.Prelude.{◌≡◌, false, ◌<◌, length, IfSome};
@@ -119,8 +119,8 @@ impl Program<'_> {
         self.print(after, out.bytes())
     }
 
-    // Reads once behind what is read, and feeds what that makes whole. A full buffer, whose rows are all fed, is read from
-    // its start.
+    // Reads once behind what is read, and feeds what that makes whole. A full buffer, whose rows are all fed, is read
+    // from its start.
     fn turn<T: PairText<TEXT_BYTES>>(
         self,
         r: Reading,

@@ -1,5 +1,5 @@
-// A program over masks and rows, step by step: each step takes the state and what was read, and gives the state and what
-// to print, which it puts behind what the buffer holds.
+// A program over masks and rows, step by step: each step takes the state and what was read, and gives the state and
+// what to print, which it puts behind what the buffer holds.
 #![tactic(auto)]
 
 ghost use Rattle.std.specs.Prelude.{◌≡◌, ◌++◌, ◌+◌, ◌≤◌, ◌<◌, length};

@@ -12,8 +12,14 @@ use Rattle.edge_streams.proofs.main.Goals as goal
 
 pub edges-requires : goal.edges-requires
 unfolding nonzeros first_from line_of decimal_of digits_of
-edges-requires c = record { one = sym (end-text line_of_pair 1 (search rules)); most = sym (end-text line_of_pair 65536 (search rules)) }
+edges-requires c = record {
+  one = sym (end-text line_of_pair 1 (search rules));
+  most = sym (end-text line_of_pair 65536 (search rules));
+}
 
 pub edges-requires-2 : goal.edges-requires-2
 unfolding pair_faults faults_text fault_line signed_of decimal_of digits_of
-edges-requires-2 c = record { one = sym (end-text faults_of_pair 1 (search rules)); most = sym (end-text faults_of_pair 65536 (search rules)) }
+edges-requires-2 c = record {
+  one = sym (end-text faults_of_pair 1 (search rules));
+  most = sym (end-text faults_of_pair 65536 (search rules));
+}
