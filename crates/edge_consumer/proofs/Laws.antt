@@ -4,13 +4,15 @@ use mathlib.Core.Bool.{Bool, true, ◌&&◌}
 use mathlib.Core.List.{List, [], ◌∷◌, ◌++◌, map}
 use Prim.Native.Nat.{ℕ, ◌+◌, ◌<◌, ◌≤◌}
 use native.Mathlib.Nat.{mod-eq_of_lt}
+use native.Mathlib.Omega.{arith}
 use lib.ListN.{length, get_or, drop, replicate, drop_of_length-le}
 use lib.Dec.{ltb, lit<}
-use borrow.Author.Tests.{ne_eqb}
 use Rattle.algebra.specs.Prime.{p}
 use Rattle.algebra.specs.Expr.{Expr, var, con, ◌⊕◌, ◌⊖◌, ◌⊗◌, eval}
-use Rattle.refusals.specs.Refusal.{canonical, sizes, contents, value_buffer, alpha_count, not_below_p}
-use Rattle.refusals.proofs.Laws.{clear, behind, front}
+use Rattle.std.specs.Prelude.{Result, Err}
+use Rattle.refusals.specs.declared.Refusal.{Refusal}
+use Rattle.refusals.specs.Refusal.{canonical, sizes, contents, value_buffer, alpha_count, not_below_p, number, number_of}
+use Rattle.refusals.proofs.Laws.{clear, behind, front, number_positive}
 use Rattle.residue.specs.Residues.{add_p, neg_p, mul_p, residues}
 use Rattle.residue.proofs.Laws.{mul_p_comm, mul_p-one}
 use Rattle.table.specs.Cells.{Cell, cells}
@@ -24,8 +26,7 @@ use Rattle.rulebook.proofs.Weights.{reads_rows, reduced, value-lt}
 use Rattle.pair_checks.specs.PairValues.{pair_values_refusal, pair_values_buffer}
 use Rattle.pair_checks.proofs.Laws.{values_written}
 use Rattle.consumer.specs.declared.ConstraintConsumer.{ConstraintConsumer}
-use Rattle.consumer.specs.declared.Outcome.{Outcome}
-use Rattle.consumer.specs.Consumer.{taken, made, accumulators}
+use Rattle.consumer.specs.Consumer.{Outcome, taken, made, accumulators}
 use Rattle.consumer.specs.Yielded.{Yielded, taken_all}
 use Rattle.consumer.proofs.Folds.{yielded}
 use Rattle.pair_fold_checks.specs.PairFold.{pair_fold_refusal, pair_fold_accumulators}
@@ -129,13 +130,8 @@ module _ (masks lv nv : List ℕ) (z f : ℕ) (alphas accs : List ℕ) (e : pair
       ∙ ap (taken_all (made alphas accs z f 1).consumer) (ap (yielded_by letters) w ∙ yielded_all))
       ∙ sym (by_consumer masks lv nv z f 1 alphas accs e (lit< tt))
 
--- what the call of a letter answers
-module _ (l : ℕ) (c : ConstraintConsumer) (v : ℕ) (r : Outcome) where
-  pub by_transition : l ≡ 116 → r ≡ taken transition c v → r ≡ taken (kind_of l) c v
-  by_transition e h = h ∙ ap (λ (n : ℕ). taken (kind_of n) c v) (sym e)
-
-  pub by_first : l ≡ 102 → r ≡ taken first c v → r ≡ taken (kind_of l) c v
-  by_first e h = h ∙ ap (λ (n : ℕ). taken (kind_of n) c v) (sym e)
-
-  pub by_plain : (l ≡ 116 → ⊥) → (l ≡ 102 → ⊥) → r ≡ taken plain c v → r ≡ taken (kind_of l) c v
-  by_plain h k e = simp (ne_eqb _ _ h, ne_eqb _ _ k) e
+-- a call with the number 0 gives no refusal
+pub not_refused : {A : Type 0} (r : Result A Refusal) (q : Refusal) → r ≡ Err q → number_of r ≡ 0 → ⊥
+not_refused r q e z =
+    let k : number q ≡ 0 = sym (ap number_of e) ∙ z in
+    omega (arith, number_positive q, k)

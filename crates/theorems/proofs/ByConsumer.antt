@@ -44,7 +44,7 @@ module _ (masks lv nv : List ℕ) (z f l : ℕ) (alphas accs : List ℕ) (e : pa
       canonical-append ((z ∷ f ∷ l ∷ []) ++ alphas) accs
       ∙ rw (canonical-append (z ∷ f ∷ l ∷ []) alphas, lt-ltb z p (z_below masks lv nv z f alphas accs e), lt-ltb f p (f_below masks lv nv z f alphas accs e), lt-ltb l p l-below, alphas-canonical masks lv nv z f alphas accs e) (accumulators-canonical masks lv nv z f alphas accs e)
 
-  made-accepted : (made alphas accs z f l).number ≡ 0
+  pub made-accepted : (made alphas accs z f l).number ≡ 0
   made-accepted =
       let c = consumer_clear masks lv nv z f alphas accs e in
       new_given alphas accs z f l ∙ sym (accepted _ _ _ (some _ _ _ c) (few _ _ _ c) (alike _ _ _ c) numbers)

@@ -1,9 +1,27 @@
--- `edge_consumer::by_consumer` meets its contract.
-use Rattle.edge_consumer.proofs.Laws.{left_by_consumer}
+-- `edge_consumer::by_consumer` meets its contract: what the fold accepts, the values and the consumer do.
+use mathlib.Core.Path.{refl, ap, ◌∙◌}
+use lib.Dec.{lit<}
+use Rattle.consumer.specs.declared.ConstraintConsumer.{ConstraintConsumer}
+use Rattle.consumer.specs.Yielded.{taken_all}
+use Rattle.theorems.proofs.ByConsumer.{made-accepted}
+use Rattle.edge_consumer.specs.Calls.{letters, yielded_by}
+use Rattle.edge_consumer.proofs.Laws.{values-accepted, left_by_consumer, not_refused}
 use Rattle.edge_consumer.proofs.by_consumer.Goals as goal
+
+pub returns-in_err-pair_values : goal.returns-in_err-pair_values
+returns-in_err-pair_values c =
+    absurd
+    (not_refused _ _ c.in_err-pair_values.was
+    (c.pair_values.ensures.number ∙ values-accepted _ _ _ _ _ _ _ c.requires))
+
+pub returns-in_err-consumer : goal.returns-in_err-consumer
+returns-in_err-consumer c =
+    absurd
+    (not_refused _ _ c.in_err-consumer.was
+    (c.new.ensures.number ∙ made-accepted _ _ _ _ _ 1 _ _ c.requires (lit< tt)))
 
 pub returns : goal.returns
 returns c =
-    left_by_consumer c.args.masks.now c.args.lv.now c.args.nv.now c.args.z_last c.args.lagrange_basis_first c.args.alphas.now c.args.accs.now c.requires _
-    c.new-made.result c.push_table-left.result _ c.pair_values.ensures.buffer c.new-made.ensures c.push_table-left.ensures
+    left_by_consumer _ _ _ _ _ _ _ c.requires _ _ _ _ c.pair_values.ensures.buffer refl
+    (c.push_table.ensures ∙ ap (λ (t : ConstraintConsumer). taken_all t (yielded_by letters c.pair_values.new.out)) c.in_ok-consumer.ensures.value)
     c.accumulators.ensures.accumulators
