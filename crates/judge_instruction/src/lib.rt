@@ -38,6 +38,7 @@ pub fn keeps_opcode_selector(masks: &Masks, lv: &Row, kind: Option<Kind>) -> boo
 }
 
 // Ten selectors from column s on as a part of the instruction word, the first shifted by `shift`.
+// Kept: `row_sums::from_digits` has the selectors as binary digits; the rulebook's sentence gives each its own power of 2, which this follows.
 pub fn word_part(lv: &Row, s: usize, shift: u32) -> Residue
     requires columns { s + REGISTER-NUM ≤ NUM-CPU-COLS }
     requires places { shift + REGISTER-NUM ≤ 64 }
