@@ -9,6 +9,7 @@ pub enum Verdict {
 }
 
 // The first failing spot: none, or a pair and the number of a value.
+// Kept: document 01 names this enum and its cases, so it is no Option.
 #[derive(Clone, Copy, PartialEq, Eq, Debug)]
 pub enum Spot {
     Clean,

@@ -55,6 +55,7 @@ pub fn compare<F: Fn() -> Result<bool, NoCase> + Drop>(
 }
 
 // Reads until the bytes are full, the input ends or a read fails: how many bytes are read.
+// Kept apart from the reading of stream_reading, where a failed read ends the program and is told.
 pub fn read_full(input: Stdin, bytes: &mut [u8]) -> usize
     ensures { IsPrefixLen result bytes.new }
 {

@@ -1,4 +1,5 @@
 // Answers as flat structs, for C and Rust.
+// Kept: C has no Result, so a number stands beside the value.
 #![tactic(auto)]
 
 use answers::{Report, Spot, Verdict};
