@@ -28,7 +28,7 @@ pub fn call_sc_cleared_head(factored: &FactoredRow, nv: &Row) -> [Residue; 2]
 pub fn call_sc_cleared_regs(factored: &FactoredRow, nv: &Row) -> [Residue; 10]
     ensures { result ≡ values residues (cells [] factored.now.row.now nv.now 0 0) call_sc_cleared_regs }
 {
-    scaled(factored.after_call_sc, nv, COL_REGS_START)
+    scaled(factored.after_call_sc.value(), nv.words(), COL_REGS_START)
 }
 
 // 209 to 216: ctx should be same as last line
@@ -36,7 +36,7 @@ pub fn call_sc_cleared_regs(factored: &FactoredRow, nv: &Row) -> [Residue; 10]
 pub fn call_sc_ctx_regs(factored: &FactoredRow, nv: &Row) -> [Residue; 8]
     ensures { result ≡ values residues (cells [] factored.now.row.now nv.now 0 0) call_sc_ctx_regs }
 {
-    ctx_differences(factored.after_call_sc, factored.row, nv)
+    ctx_differences(factored.after_call_sc.value(), factored.row, nv)
 }
 
 // 217 and 218: end ext next line, pc, clk not change

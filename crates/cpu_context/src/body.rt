@@ -36,7 +36,7 @@ pub fn body_ctx_regs(lv: &Row, nv: &Row, z_last: Residue) -> [Residue; 8]
     let nv_not_padding = one - nv.at(COL_IS_PADDING);
     let not_end = nv_not_padding * (one - lv.at(COL_S_END));
     let normal_opcode = not_end * (one - lv.at(COL_S_CALL_SC));
-    ctx_differences(normal_opcode * z_last, lv, nv)
+    ctx_differences((normal_opcode * z_last).value(), lv, nv)
 }
 
 // filter imm to prog

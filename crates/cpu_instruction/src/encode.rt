@@ -1,12 +1,15 @@
 // constraint_instruction_encode: the instruction word holds op1_imm, the selectors and the opcode.
 #![tactic(auto, unfolding(algebra::specs::Expr::eval, table::specs::Entry::values, table::specs::CpuStark::constraint_instruction_encode, residue::specs::Residues::sub_p))]
 
-ghost use Rattle.std.specs.Prelude.{◌≡◌, []};
+ghost use Rattle.std.specs.Prelude.{◌≡◌, [], ◌+◌, ◌-◌, ◌%◌, ◌≤◌, get_or};
+ghost use Rattle.algebra.specs.Prime.{p};
 ghost use Rattle.algebra.specs.Expr.{eval};
 ghost use Rattle.residue.specs.Residues.{residues};
+ghost use Rattle.table.specs.Columns.{REGISTER-NUM, NUM-CPU-COLS};
 ghost use Rattle.table.specs.Cells.{cells};
 ghost use Rattle.table.specs.Entry.{values};
 ghost use Rattle.table.specs.CpuStark.{instruction, constraint_instruction_encode};
+ghost use Rattle.row_sums.specs.Digits.{doubled};
 
 use residue::Residue;
 use row_sums::{from_digits, pow2};
@@ -31,6 +34,14 @@ impl CpuStark {
 // How far below a group's first place its last one is.
 const LAST: u32 = REGISTER_NUM as u32 - 1;
 
+// The number that the ten selectors from column `start` on are the binary digits of.
+fn number_of_selectors(lv: &Row, start: usize) -> Residue
+    requires { start + REGISTER-NUM ≤ NUM-CPU-COLS }
+    ensures { result ≡ doubled (λ i. get_or lv.now (start + (9 - i)) 0) REGISTER-NUM % p }
+{
+    from_digits(lv.words(), start)
+}
+
 // What the columns of the operands and of the opcode encode.
 #[tactic(auto, unfolding(algebra::specs::Expr::eval, table::specs::CpuStark::instruction), using(row_sums::proofs::Laws::plus_shifted_is))]
 pub fn instruction(lv: &Row) -> Residue
@@ -39,15 +50,15 @@ pub fn instruction(lv: &Row) -> Residue
     // From the high bits down, the order of each group is r9, r8, .. r0.
     let op1_imm = Sum::product(lv.at(COL_OP1_IMM), pow2(CpuStark::OP1_IMM_SHIFT));
     let with_op0 = op1_imm.plus(
-        from_digits(lv, COL_S_OP0_START),
+        number_of_selectors(lv, COL_S_OP0_START),
         pow2(CpuStark::OP0_SHIFT_START - LAST),
     );
     let with_op1 = with_op0.plus(
-        from_digits(lv, COL_S_OP1_START),
+        number_of_selectors(lv, COL_S_OP1_START),
         pow2(CpuStark::OP1_SHIFT_START - LAST),
     );
     let with_dst = with_op1.plus(
-        from_digits(lv, COL_S_DST_START),
+        number_of_selectors(lv, COL_S_DST_START),
         pow2(CpuStark::DST_SHIFT_START - LAST),
     );
     with_dst.reduced() + lv.at(COL_OPCODE)

@@ -2,12 +2,13 @@
 // choose.
 #![tactic(auto, unfolding(algebra::specs::Expr::eval, table::specs::Entry::values, table::specs::Entry::plus_all, parts::specs::Parts::plus_up_to, table::specs::CpuStark::selector_sum, table::specs::CpuStark::selected, table::specs::CpuStark::selected_next, table::specs::CpuStark::operand_sums, residue::specs::Residues::sub_p))]
 
-ghost use Rattle.std.specs.Prelude.{◌≡◌, [], ◌+◌, ◌≤◌};
-ghost use Rattle.residue.specs.Residues.{residues};
-ghost use Rattle.table.specs.Columns.{REGISTER-NUM, NUM-CPU-COLS};
+ghost use Rattle.std.specs.Prelude.{◌≡◌, [], ◌+◌, ◌≤◌, get_or};
+ghost use Rattle.residue.specs.Residues.{residues, mul_p};
+ghost use Rattle.table.specs.Columns.{REGISTER-NUM, NUM-CPU-COLS, COL-REGS-START};
 ghost use Rattle.table.specs.Cells.{cells};
 ghost use Rattle.table.specs.Entry.{values};
 ghost use Rattle.table.specs.CpuStark.{selectors_binary, operand_sums};
+ghost use Rattle.parts.specs.Parts.{plus_up_to};
 
 use residue::Residue;
 use row_sums::{plus_products, sum};
@@ -26,23 +27,45 @@ pub fn selectors_binary(lv: &Row, start: usize) -> [Residue; REGISTER_NUM]
     })
 }
 
+// The sum of the ten selectors from column `start` on.
+fn selector_sum(lv: &Row, start: usize) -> Residue
+    requires { start + REGISTER-NUM ≤ NUM-CPU-COLS }
+    ensures { result ≡ plus_up_to 0 (λ i. get_or lv.now (start + i) 0) REGISTER-NUM }
+{
+    sum(lv.words(), start, REGISTER_NUM)
+}
+
+// The register that the ten selectors from column `start` on choose: the registers of `regs`, each times its selector.
+fn selected<'a>(lv: &Row<'a>, start: usize, regs: &Row<'a>) -> Residue
+    requires { start + REGISTER-NUM ≤ NUM-CPU-COLS }
+    ensures { result ≡ plus_up_to 0
+        (λ i. mul_p (get_or lv.now (start + i) 0) (get_or regs.now (COL-REGS-START + i) 0)) REGISTER-NUM }
+{
+    plus_products(
+        Residue::ZERO,
+        lv.words(),
+        start,
+        regs.words(),
+        COL_REGS_START,
+        REGISTER_NUM,
+    )
+}
+
 // At most one register is chosen for each operand, and it holds the operand.
 pub fn operand_sums(lv: &Row, nv: &Row) -> [Residue; 6]
     ensures { result ≡ values residues (cells [] lv.now nv.now 0 0) operand_sums }
 {
     let one = Residue::ONE;
     let main_line = one - lv.at(COL_IS_EXT_LINE);
-    let sum_s_op0 = sum(lv, COL_S_OP0_START, REGISTER_NUM);
-    let sum_s_op1 = sum(lv, COL_S_OP1_START, REGISTER_NUM);
-    let sum_s_dst = sum(lv, COL_S_DST_START, REGISTER_NUM);
+    let sum_s_op0 = selector_sum(lv, COL_S_OP0_START);
+    let sum_s_op1 = selector_sum(lv, COL_S_OP1_START);
+    let sum_s_dst = selector_sum(lv, COL_S_DST_START);
     let uses_op0 = main_line * sum_s_op0;
     let uses_op1 = main_line * sum_s_op1;
     let uses_dst = main_line * sum_s_dst;
-    let regs = lv.part::<COL_REGS_START, REGISTER_NUM>();
-    let n_regs = nv.part::<COL_REGS_START, REGISTER_NUM>();
-    let op0_sum = plus_products(Residue::ZERO, lv, COL_S_OP0_START, &regs, 0, REGISTER_NUM);
-    let op1_sum = plus_products(Residue::ZERO, lv, COL_S_OP1_START, &regs, 0, REGISTER_NUM);
-    let dst_sum = plus_products(Residue::ZERO, lv, COL_S_DST_START, &n_regs, 0, REGISTER_NUM);
+    let op0_sum = selected(lv, COL_S_OP0_START, lv);
+    let op1_sum = selected(lv, COL_S_OP1_START, lv);
+    let dst_sum = selected(lv, COL_S_DST_START, nv);
     [
         // Only one register used for op0.
         uses_op0 * (one - sum_s_op0),

@@ -44,8 +44,10 @@ pub fn opcode_selectors_binary(lv: &Row) -> [Residue; NUM_OP_SELECTOR]
 pub fn cal_opcode(lv: &Row, masks: &Masks) -> Residue
     ensures { result ≡ eval residues (cells masks.now lv.now [] 0 0) cal_opcode }
 {
-    let to_rc = plus_products(Residue::ZERO, lv, COL_S_MOV, masks, MOV, NOT - MOV);
-    plus_products(to_rc, lv, COL_S_NOT, masks, NOT, NUM_MASKS - NOT)
+    let columns = lv.words();
+    let opcodes = masks.words();
+    let to_rc = plus_products(Residue::ZERO, columns, COL_S_MOV, opcodes, MOV, NOT - MOV);
+    plus_products(to_rc, columns, COL_S_NOT, opcodes, NOT, NUM_MASKS - NOT)
 }
 
 // The selectors' sum, and the opcode that they choose.
@@ -53,7 +55,7 @@ pub fn opcode_sums(lv: &Row, masks: &Masks) -> [Residue; 2]
     ensures { result ≡ values residues (cells masks.now lv.now [] 0 0) opcode_sums }
 {
     let one = Residue::ONE;
-    let sum_s_op = sum(lv, COL_S_SIMPLE_ARITHMATIC_OP, NUM_OP_SELECTOR);
+    let sum_s_op = sum(lv.words(), COL_S_SIMPLE_ARITHMATIC_OP, NUM_OP_SELECTOR);
     let one_opcode = one - lv.at(COL_S_BITWISE) - lv.at(COL_S_SIMPLE_ARITHMATIC_OP);
     [
         // Only one opcode selector enabled.

@@ -6,7 +6,7 @@ ghost use Rattle.table.specs.Entry.{values};
 ghost use Rattle.table.specs.SimpleArithmaticOp.{simple_arithmatic_op};
 ghost use Rattle.cpu_simple_arithmatic_op.specs.Products.{all_but_one};
 
-use residue::Residue;
+use residue::{Residue, mul};
 use table::columns::*;
 use table::masks::*;
 use table::{Masks, Row};
@@ -14,26 +14,19 @@ use table::{Masks, Row};
 // The selector times all but one of OPCODE's differences from five masks, the first left out, then the second,
 // and so on: each is not zero only for the opcode that is left out. Products of two of them are shared.
 #[tactic(auto, using(crate::proofs::Products::last_two, crate::proofs::Products::last_three), unfolding(crate::specs::Products::all_but_one))]
-fn is_ops(
-    selector: Residue,
-    a: Residue,
-    b: Residue,
-    c: Residue,
-    d: Residue,
-    e: Residue,
-) -> [Residue; 5]
+pub fn is_ops(selector: u64, a: u64, b: u64, c: u64, d: u64, e: u64) -> [Residue; 5]
     ensures { result ≡ all_but_one selector a b c d e }
 {
-    let de = d * e;
-    let with_cde = selector * (c * de);
-    let with_ab = selector * a * b;
-    let with_abc = with_ab * c;
+    let de = mul(d, e);
+    let with_cde = mul(selector, mul(c, de));
+    let with_ab = mul(mul(selector, a), b);
+    let with_abc = mul(with_ab, c);
     [
-        with_cde * b,
-        with_cde * a,
-        with_ab * de,
-        with_abc * e,
-        with_abc * d,
+        Residue::new(mul(with_cde, b)),
+        Residue::new(mul(with_cde, a)),
+        Residue::new(mul(with_ab, de)),
+        Residue::new(mul(with_abc, e)),
+        Residue::new(mul(with_abc, d)),
     ]
 }
 
@@ -45,12 +38,12 @@ pub fn eval_packed_generic(lv: &Row, masks: &Masks) -> [Residue; 4]
     let one = Residue::ONE;
     let opcode = lv.at(COL_OPCODE);
     let [is_add, is_mul, is_eq, is_neq, is_assert] = is_ops(
-        lv.at(COL_S_SIMPLE_ARITHMATIC_OP),
-        opcode - masks.at(ADD),
-        opcode - masks.at(MUL),
-        opcode - masks.at(EQ),
-        opcode - masks.at(NEQ),
-        opcode - masks.at(ASSERT),
+        lv.at(COL_S_SIMPLE_ARITHMATIC_OP).value(),
+        (opcode - masks.at(ADD)).value(),
+        (opcode - masks.at(MUL)).value(),
+        (opcode - masks.at(EQ)).value(),
+        (opcode - masks.at(NEQ)).value(),
+        (opcode - masks.at(ASSERT)).value(),
     );
     let op0 = lv.at(COL_OP0);
     let op1 = lv.at(COL_OP1);

@@ -29,7 +29,7 @@ pub fn tx_init_first_line_head(lv: &Row, lagrange_basis_first: Residue) -> [Resi
 pub fn tx_init_first_line_regs(lv: &Row, lagrange_basis_first: Residue) -> [Residue; REGISTER_NUM]
     ensures { result ≡ values residues (cells [] lv.now [] 0 lagrange_basis_first) tx_init_first_line_regs }
 {
-    scaled(lagrange_basis_first, lv, COL_REGS_START)
+    scaled(lagrange_basis_first.value(), lv.words(), COL_REGS_START)
 }
 
 pub fn tx_init_each_tx_head(lv: &Row, nv: &Row, z_last: Residue) -> [Residue; 6]
@@ -54,5 +54,5 @@ pub fn tx_init_each_tx_regs(lv: &Row, nv: &Row, z_last: Residue) -> [Residue; RE
     ensures { result ≡ values residues (cells [] lv.now nv.now z_last 0) tx_init_each_tx_regs }
 {
     let not_same_tx = (Residue::ONE - lv.at(COL_IS_NEXT_LINE_SAME_TX)) * z_last;
-    scaled(not_same_tx, nv, COL_REGS_START)
+    scaled(not_same_tx.value(), nv.words(), COL_REGS_START)
 }

@@ -5,14 +5,14 @@ ghost use Rattle.table.specs.Cells.{cells};
 ghost use Rattle.table.specs.Entry.{values};
 ghost use Rattle.parts.specs.Ctx.{ctx_differences};
 
-use residue::Residue;
+use residue::{Residue, mul};
 use table::Row;
 use table::columns::{COL_ADDR_CODE_RANGE_START, COL_ADDR_STORAGE_RANGE_START};
 
 // The differences of the context registers, each times f: of the storage address and of the code
 // address in turn.
 #[tactic(auto, unfolding(algebra::specs::Expr::eval, table::specs::Entry::values, table::specs::Entry::each, residue::specs::Residues::sub_p, crate::specs::Ctx::ctx_differences))]
-pub fn ctx_differences(f: Residue, lv: &Row, nv: &Row) -> [Residue; 8]
+pub fn ctx_differences(f: u64, lv: &Row, nv: &Row) -> [Residue; 8]
     ensures { result ≡ values residues (cells [] lv.now nv.now 0 0) (ctx_differences f) }
 {
     std::array::from_fn(|i| {
@@ -22,6 +22,7 @@ pub fn ctx_differences(f: Residue, lv: &Row, nv: &Row) -> [Residue; 8]
             COL_ADDR_CODE_RANGE_START
         };
         let column = storage_or_code + i / 2;
-        f * (nv.at(column) - lv.at(column))
+        let difference = nv.at(column) - lv.at(column);
+        Residue::new(mul(f, difference.value()))
     })
 }

@@ -3,16 +3,14 @@
 
 ghost use Rattle.std.specs.Prelude.{◌≡◌, ◌+◌, ◌≤◌, length, get_or};
 ghost use Rattle.residue.specs.Residues.{mul_p};
-ghost use Rattle.table.specs.Columns.{NUM-CPU-COLS};
 ghost use Rattle.parts.specs.Parts.{up_to};
 
-use residue::Residue;
-use table::Row;
+use residue::{Residue, mul};
 
 pub mod context;
 
 // Writes the numbers of the residues.
-pub fn put(out: &mut [u64], values: &[Residue])
+pub fn put_residues(out: &mut [u64], values: &[Residue])
     requires { length values.now ≡ length out.old }
     ensures { out.new ≡ values.now }
 {
@@ -22,11 +20,11 @@ pub fn put(out: &mut [u64], values: &[Residue])
     }
 }
 
-// The ten columns of a row from the column `from` on, each times f.
+// The ten words from the place `from` on, each times f.
 #[tactic(auto, unfolding(crate::specs::Parts::up_to))]
-pub fn scaled(f: Residue, row: &Row, from: usize) -> [Residue; 10]
-    requires { from + 10 ≤ NUM-CPU-COLS }
-    ensures { result ≡ up_to 10 (λ i. mul_p f (get_or row.now (from + i) 0)) }
+pub fn scaled(f: u64, words: &[u64], from: usize) -> [Residue; 10]
+    requires { from + 10 ≤ length words.now }
+    ensures { result ≡ up_to 10 (λ i. mul_p f (get_or words.now (from + i) 0)) }
 {
-    std::array::from_fn(|i| f * row.at(from + i))
+    std::array::from_fn(|i| Residue::new(mul(f, words[from + i])))
 }

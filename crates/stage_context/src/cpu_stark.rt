@@ -15,7 +15,7 @@ use cpu_tx_init::tx_init::{
     tx_init_each_tx_head, tx_init_each_tx_regs, tx_init_first_line_head, tx_init_first_line_regs,
 };
 use cpu_wrapper::counted_row::CountedRow;
-use parts::put;
+use parts::put_residues;
 use residue::Residue;
 use table::Row;
 
@@ -30,16 +30,16 @@ pub fn constraint_tx_init(
     ensures { out.new
         ≡ values residues (cells [] lv.now nv.now z_last lagrange_basis_first) constraint_tx_init }
 {
-    put(
+    put_residues(
         &mut out[0..5],
         &tx_init_first_line_head(lv, lagrange_basis_first),
     );
-    put(
+    put_residues(
         &mut out[5..15],
         &tx_init_first_line_regs(lv, lagrange_basis_first),
     );
-    put(&mut out[15..21], &tx_init_each_tx_head(lv, nv, z_last));
-    put(&mut out[21..31], &tx_init_each_tx_regs(lv, nv, z_last));
+    put_residues(&mut out[15..21], &tx_init_each_tx_head(lv, nv, z_last));
+    put_residues(&mut out[21..31], &tx_init_each_tx_regs(lv, nv, z_last));
 }
 
 // The constraints that eval_packed_generic yields itself.
@@ -47,9 +47,9 @@ pub fn eval_packed_generic_body(lv: &Row, nv: &Row, z_last: Residue, out: &mut [
     requires { length out.old ≡ 12 }
     ensures { out.new ≡ values residues (cells [] lv.now nv.now z_last 0) eval_packed_generic_body }
 {
-    put(&mut out[0..2], &body_tx_idx(lv, nv, z_last));
-    put(&mut out[2..10], &body_ctx_regs(lv, nv, z_last));
-    put(&mut out[10..12], &body_filter_imm(lv));
+    put_residues(&mut out[0..2], &body_tx_idx(lv, nv, z_last));
+    put_residues(&mut out[2..10], &body_ctx_regs(lv, nv, z_last));
+    put_residues(&mut out[10..12], &body_filter_imm(lv));
 }
 
 pub fn constraint_ext_lines(counted: &CountedRow, nv: &Row, out: &mut [u64])
@@ -57,8 +57,8 @@ pub fn constraint_ext_lines(counted: &CountedRow, nv: &Row, out: &mut [u64])
     ensures { out.new ≡ values residues (cells [] counted.now nv.now 0 0) constraint_ext_lines }
 {
     let lv = counted.row();
-    put(&mut out[0..4], &ext_lines_counts(counted, nv));
-    put(&mut out[4..5], &ext_lines_opcode(lv, nv));
-    put(&mut out[5..24], &ext_lines_selectors(lv, nv));
-    put(&mut out[24..25], &ext_lines_op1_imm(lv, nv));
+    put_residues(&mut out[0..4], &ext_lines_counts(counted, nv));
+    put_residues(&mut out[4..5], &ext_lines_opcode(lv, nv));
+    put_residues(&mut out[5..24], &ext_lines_selectors(lv, nv));
+    put_residues(&mut out[24..25], &ext_lines_op1_imm(lv, nv));
 }

@@ -11,7 +11,7 @@ use cpu_context::env_idx::constraint_env_idx;
 use cpu_stark::*;
 use cpu_wrapper::counted_row::CountedRow;
 use cpu_wrapper::wrapper::constraint_wrapper_cols;
-use parts::put;
+use parts::put_residues;
 use residue::Residue;
 use table::Row;
 
@@ -31,12 +31,12 @@ pub fn eval_context(
         ≡ values residues (cells [] lv.now nv.now z_last lagrange_basis_first) context }
 {
     let counted = CountedRow::new(lv);
-    put(
+    put_residues(
         &mut out[0..7],
         &constraint_wrapper_cols(&counted, nv, z_last),
     );
     constraint_tx_init(lv, nv, z_last, lagrange_basis_first, &mut out[7..38]);
     eval_packed_generic_body(lv, nv, z_last, &mut out[38..50]);
     constraint_ext_lines(&counted, nv, &mut out[50..75]);
-    put(&mut out[75..82], &constraint_env_idx(lv, nv, z_last));
+    put_residues(&mut out[75..82], &constraint_env_idx(lv, nv, z_last));
 }

@@ -6,7 +6,7 @@ ghost use Rattle.table.specs.Entry.{values};
 ghost use Rattle.table.specs.CpuStark.{constraint_reg_consistency};
 
 use cpu_registers::reg_consistency::*;
-use parts::put;
+use parts::put_residues;
 use residue::Residue;
 use table::Row;
 
@@ -15,6 +15,6 @@ pub fn constraint_reg_consistency(lv: &Row, nv: &Row, z_last: Residue, out: &mut
     requires { length out.old ≡ 10 }
     ensures { out.new ≡ values residues (cells [] lv.now nv.now z_last 0) constraint_reg_consistency }
 {
-    put(&mut out[0..9], &dst_reg_changes(lv, nv, z_last));
-    put(&mut out[9..10], &fp_consistency(lv, nv, z_last));
+    put_residues(&mut out[0..9], &dst_reg_changes(lv, nv, z_last));
+    put_residues(&mut out[9..10], &fp_consistency(lv, nv, z_last));
 }

@@ -9,7 +9,7 @@ ghost use Rattle.stage_flow.specs.Stage.{flow};
 
 use cpu_flow::env_unchanged::{constraint_env_unchanged_clk, constraint_env_unchanged_pc};
 use cpu_stark::*;
-use parts::put;
+use parts::put_residues;
 use residue::Residue;
 use table::Row;
 
@@ -22,7 +22,7 @@ pub fn eval_flow(lv: &Row, nv: &Row, z_last: Residue, out: &mut [u64])
     ensures { out.new ≡ values residues (cells [] lv.now nv.now z_last 0) flow }
 {
     let clk = constraint_env_unchanged_clk(lv, nv);
-    put(&mut out[0..2], &clk);
-    put(&mut out[2..5], &constraint_env_unchanged_pc(lv, nv, clk[0]));
+    put_residues(&mut out[0..2], &clk);
+    put_residues(&mut out[2..5], &constraint_env_unchanged_pc(lv, nv, clk[0]));
     constraint_reg_consistency(lv, nv, z_last, &mut out[5..15]);
 }

@@ -9,7 +9,7 @@ ghost use Rattle.table.specs.CpuStark.{constraint_opcode_selector, constraint_op
 
 use cpu_instruction::operands::{operand_sums, selectors_binary};
 use cpu_opcode_selector::selectors::{opcode_products, opcode_selectors_binary, opcode_sums};
-use parts::put;
+use parts::put_residues;
 use table::columns::*;
 use table::{Masks, Row};
 
@@ -17,17 +17,17 @@ pub fn constraint_opcode_selector(lv: &Row, masks: &Masks, out: &mut [u64])
     requires { length out.old ≡ 23 }
     ensures { out.new ≡ values residues (cells masks.now lv.now [] 0 0) constraint_opcode_selector }
 {
-    put(&mut out[0..2], &opcode_products(lv, masks));
-    put(&mut out[2..21], &opcode_selectors_binary(lv));
-    put(&mut out[21..23], &opcode_sums(lv, masks));
+    put_residues(&mut out[0..2], &opcode_products(lv, masks));
+    put_residues(&mut out[2..21], &opcode_selectors_binary(lv));
+    put_residues(&mut out[21..23], &opcode_sums(lv, masks));
 }
 
 pub fn constraint_operands_mathches_registers(lv: &Row, nv: &Row, out: &mut [u64])
     requires { length out.old ≡ 36 }
     ensures { out.new ≡ values residues (cells [] lv.now nv.now 0 0) constraint_operands_mathches_registers }
 {
-    put(&mut out[0..10], &selectors_binary(lv, COL_S_OP0_START));
-    put(&mut out[10..20], &selectors_binary(lv, COL_S_OP1_START));
-    put(&mut out[20..30], &selectors_binary(lv, COL_S_DST_START));
-    put(&mut out[30..36], &operand_sums(lv, nv));
+    put_residues(&mut out[0..10], &selectors_binary(lv, COL_S_OP0_START));
+    put_residues(&mut out[10..20], &selectors_binary(lv, COL_S_OP1_START));
+    put_residues(&mut out[20..30], &selectors_binary(lv, COL_S_DST_START));
+    put_residues(&mut out[30..36], &operand_sums(lv, nv));
 }

@@ -9,7 +9,7 @@ ghost use Rattle.stage_instruction.specs.Stage.{instruction};
 
 use cpu_instruction::encode::constraint_instruction_encode;
 use cpu_stark::*;
-use parts::put;
+use parts::put_residues;
 use table::{Masks, Row};
 
 pub mod cpu_stark;
@@ -21,6 +21,6 @@ pub fn eval_instruction(lv: &Row, nv: &Row, masks: &Masks, out: &mut [u64])
     ensures { out.new ≡ values residues (cells masks.now lv.now nv.now 0 0) instruction }
 {
     constraint_opcode_selector(lv, masks, &mut out[0..23]);
-    put(&mut out[23..26], &constraint_instruction_encode(lv));
+    put_residues(&mut out[23..26], &constraint_instruction_encode(lv));
     constraint_operands_mathches_registers(lv, nv, &mut out[26..62]);
 }

@@ -8,7 +8,7 @@ ghost use Rattle.table.specs.CallSc.{call_sc};
 use cpu_after_call_sc::after_call_sc::*;
 use cpu_call_sc::call_sc::*;
 use cpu_factors::FactoredRow;
-use parts::put;
+use parts::put_residues;
 use residue::Residue;
 use table::Row;
 
@@ -17,11 +17,11 @@ pub fn eval_packed_generic(factored: &FactoredRow, nv: &Row, z_last: Residue, ou
     requires { length out.old ≡ 42 }
     ensures { out.new ≡ values residues (cells [] factored.now.row.now nv.now z_last 0) call_sc }
 {
-    put(&mut out[0..8], &call_sc_addresses(factored, nv));
-    put(&mut out[8..12], &call_sc_operands(factored, nv, z_last));
-    put(&mut out[12..14], &call_sc_cleared_head(factored, nv));
-    put(&mut out[14..24], &call_sc_cleared_regs(factored, nv));
-    put(&mut out[24..32], &call_sc_ctx_regs(factored, nv));
-    put(&mut out[32..34], &call_sc_end(factored, nv));
-    put(&mut out[34..42], &call_sc_filters(factored));
+    put_residues(&mut out[0..8], &call_sc_addresses(factored, nv));
+    put_residues(&mut out[8..12], &call_sc_operands(factored, nv, z_last));
+    put_residues(&mut out[12..14], &call_sc_cleared_head(factored, nv));
+    put_residues(&mut out[14..24], &call_sc_cleared_regs(factored, nv));
+    put_residues(&mut out[24..32], &call_sc_ctx_regs(factored, nv));
+    put_residues(&mut out[32..34], &call_sc_end(factored, nv));
+    put_residues(&mut out[34..42], &call_sc_filters(factored));
 }

@@ -9,7 +9,7 @@ ghost use Rattle.stage_opcodes.specs.Stage.{opcodes};
 
 use cpu_factors::FactoredRow;
 use cpu_simple_arithmatic_op::simple_arithmatic_op;
-use parts::put;
+use parts::put_residues;
 use residue::Residue;
 use table::{Masks, Row};
 
@@ -23,7 +23,7 @@ pub fn eval_opcodes(lv: &Row, nv: &Row, masks: &Masks, z_last: Residue, out: &mu
     ensures { out.new ≡ values residues (cells masks.now lv.now nv.now z_last 0) opcodes }
 {
     let factored = FactoredRow::new(lv);
-    put(
+    put_residues(
         &mut out[0..4],
         &simple_arithmatic_op::eval_packed_generic(lv, masks),
     );

@@ -8,7 +8,7 @@ ghost use Rattle.table.specs.Tape.{tape};
 use cpu_factors::FactoredRow;
 use cpu_tape::tape::*;
 use cpu_tp::tp::*;
-use parts::put;
+use parts::put_residues;
 use table::Row;
 
 #[tactic(auto, unfolding(table::specs::Entry::values, table::specs::Tape::tape, table::specs::Tape::tape_ext_lines, table::specs::Tape::tape_first_ext_line, table::specs::Tape::tape_tp, table::specs::Tape::tape_filter, algebra::specs::Expr::eval))]
@@ -16,8 +16,8 @@ pub fn eval_packed_generic(factored: &FactoredRow, nv: &Row, out: &mut [u64])
     requires { length out.old ≡ 21 }
     ensures { out.new ≡ values residues (cells [] factored.now.row.now nv.now 0 0) tape }
 {
-    put(&mut out[0..6], &tape_ext_lines(factored, nv));
-    put(&mut out[6..11], &tape_first_ext_line(factored, nv));
-    put(&mut out[11..17], &tape_tp(factored, nv));
-    put(&mut out[17..21], &tape_filter(factored));
+    put_residues(&mut out[0..6], &tape_ext_lines(factored, nv));
+    put_residues(&mut out[6..11], &tape_first_ext_line(factored, nv));
+    put_residues(&mut out[11..17], &tape_tp(factored, nv));
+    put_residues(&mut out[17..21], &tape_filter(factored));
 }

@@ -17,7 +17,7 @@ returns c =
       selector_sum_is [] l n 0 0 COL-S-OP0-START,
       selector_sum_is [] l n 0 0 COL-S-OP1-START,
       selector_sum_is [] l n 0 0 COL-S-DST-START,
-      selected_is [] l n 0 0 COL-S-OP0-START c.part-regs.ensures,
-      selected_is [] l n 0 0 COL-S-OP1-START c.part-regs.ensures,
-      selected_next_is [] l n 0 0 COL-S-DST-START c.part-n_regs.ensures,
+      selected_is [] l n 0 0 COL-S-OP0-START,
+      selected_is [] l n 0 0 COL-S-OP1-START,
+      selected_next_is [] l n 0 0 COL-S-DST-START,
     )
