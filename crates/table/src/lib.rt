@@ -15,6 +15,7 @@ pub type Row<'a> = Residues<'a, { columns::NUM_CPU_COLS }>;
 pub type Masks<'a> = Residues<'a, { masks::NUM_MASKS }>;
 
 // A pair of rows, the current one and the next, with the masks and both weights.
+// Kept: a function of the table takes the rows and weights that it reads; a whole pair would ask more of its callers.
 #[derive(Drop)]
 pub struct Pair<'a> {
     pub masks: Masks<'a>,
