@@ -1,5 +1,5 @@
-// The columns and the masks by name, the number of values, and a pair of rows, for code. The constraint table is a definition:
-// specs/Table.antt.
+// The columns and the masks by name, the number of values, and a pair of rows, for code. The constraint table is
+// a definition: specs/Table.antt.
 #![tactic(auto)]
 
 use residue::{Residue, Residues};

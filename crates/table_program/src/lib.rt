@@ -1,2 +1,3 @@
-// The table as a straight-line program, made of the Rust's own expressions, and the theorem that it is the table. There is no code.
+// The table as a straight-line program, made of the Rust's own expressions, and the theorem that it is the
+// table. There is no code.
 #![tactic(auto)]
