@@ -57,7 +57,7 @@ pub struct Filled {
 }
 
 // Reads until the bytes are full, the input ends or a read fails.
-// Kept: how many bytes are read is the answer, so the count is no plainer as the length of what is left to fill.
+// Kept: the count of bytes is the answer, so a walk over the slice that is left to fill would be no plainer.
 pub fn read_full(input: Stdin, bytes: &mut [u8]) -> Filled
     ensures { IsPrefixLen result.bytes bytes.new }
 {

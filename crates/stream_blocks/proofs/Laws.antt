@@ -43,5 +43,7 @@ module _ {bytes rest : List ℕ} {size n : ℕ} (left : RowsLeft bytes rest size
 
   pub all_given : length rest < size → n ≡ length bytes / 752
   all_given h =
-      let l : length rest ≡ length bytes - 752 * n = ap (λ (l : List ℕ). length l) left.is ∙ length-drop (752 * n) bytes in
+      let l : length rest ≡ length bytes - 752 * n =
+      ap (λ (l : List ℕ). length l) left.is ∙ length-drop (752 * n) bytes
+      in
       omega (arith, left.size_is, left.within)

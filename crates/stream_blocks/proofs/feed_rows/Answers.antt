@@ -43,10 +43,11 @@ loop-i-preserved g c =
     let given = c.in-Some.ensures.steps in
     let cut = given.0.1 in
     let row = row-given c.loop-i.invariant.left _ _ cut.0 cut.1 in
+    let gives = rw row at c.feed-after.ensures.gives in
     record {
       fed =
           rw given.2
-          (fed_more _ _ _ _ c.loop-i.invariant.fed (not-false _ c.if-not-after.false) (rw row at c.feed-after.ensures.gives)
+          (fed_more _ _ _ _ c.loop-i.invariant.fed (not-false _ c.if-not-after.false) gives
           c.feed-after.ensures.onward);
       left = one_given c.loop-i.invariant.left _ _ cut.0 cut.1 given.0.0 given.2;
     }
