@@ -1,9 +1,10 @@
-// Stored cases compared one after the other, the line that a comparison ends with, and the reading of what is compared.
+// Stored cases compared one after the other, the line that a comparison ends with, and the reading of an input until
+// a buffer is full.
 #![tactic(auto)]
 
 ghost use Rattle.io.specs.Counts.{IsPrefixLen};
 
-use std::io::{Read, Stdin, Stdout};
+use std::io::{Read, Stdin, Stdout, Write};
 
 // More cases than any file has.
 const MOST: u64 = 1_000_000;
@@ -16,22 +17,16 @@ pub enum NoCase {
 }
 
 // Prints "N THINGS, D differ", and what is wrong with the file that was compared, if anything is.
-pub fn print(out: Stdout, n: u64, things: &[u8], differ: u64, fault: &[u8]) {
-    let _ = out.print(n);
-    let _ = out.write_all(b" ");
-    let _ = out.write_all(things);
-    let _ = out.write_all(b", ");
-    let _ = out.print(differ);
-    let _ = out.write_all(b" differ");
-    let _ = out.write_all(fault);
-    let _ = out.write_all(b"\n");
+pub fn print(out: Stdout, n: u64, things: &str, differ: u64, fault: &str) {
+    let mut out = out;
+    let _ = writeln!(out, "{n} {things}, {differ} differ{fault}");
 }
 
 // Compares cases until there is none, each by a call of `agrees`, and prints how many differ.
 pub fn compare<F: Fn() -> Result<bool, NoCase> + Drop>(
     out: Stdout,
-    things: &[u8],
-    malformed: &[u8],
+    things: &str,
+    malformed: &str,
     agrees: F,
 )
     requires { F.IsAlwaysCallable agrees }
@@ -44,30 +39,42 @@ pub fn compare<F: Fn() -> Result<bool, NoCase> + Drop>(
                 differ += 1;
             }
             Err(NoCase::End) => {
-                return print(out, n, things, differ, b"");
+                return print(out, n, things, differ, "");
             }
             Err(NoCase::Malformed) => {
                 return print(out, n, things, differ, malformed);
             }
         }
     }
-    print(out, MOST, things, differ, b", and more follow");
+    print(out, MOST, things, differ, ", and more follow");
 }
 
-// Reads until the bytes are full, the input ends or a read fails: how many bytes are read.
-// Kept apart from the reading of stream_reading, where a failed read ends the program and is told.
-pub fn read_full(input: Stdin, bytes: &mut [u8]) -> usize
-    ensures { IsPrefixLen result bytes.new }
+// How many bytes were read, and whether that ended with a read that failed.
+#[derive(Clone, Copy)]
+pub struct Filled {
+    pub bytes: usize,
+    pub failed: bool,
+}
+
+// Reads until the bytes are full, the input ends or a read fails.
+// Kept: the count of bytes is the answer, so a walk over the slice that is left to fill would be no plainer.
+pub fn read_full(input: Stdin, bytes: &mut [u8]) -> Filled
+    ensures { IsPrefixLen result.bytes bytes.new }
 {
     let mut from = input;
     let mut n = 0;
+    let mut failed = false;
     while n < bytes.len() {
         match from.read(&mut bytes[n..]) {
-            Ok(0) | Err(_) => break,
+            Ok(0) => break,
             Ok(got) => {
                 n += got;
             }
+            Err(_) => {
+                failed = true;
+                break;
+            }
         }
     }
-    n
+    Filled { bytes: n, failed }
 }

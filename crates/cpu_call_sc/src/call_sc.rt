@@ -19,16 +19,14 @@ pub fn call_sc_addresses(factored: &FactoredRow, nv: &Row) -> [Residue; 8]
 {
     let lv = factored.row;
     let on_main_line = factored.call_sc_main_line;
-    [
-        on_main_line * (nv.at(COL_S_OP0_START) - lv.at(COL_ADDR_STORAGE_RANGE_START)),
-        on_main_line * (nv.at(COL_S_OP0_START + 1) - lv.at(COL_ADDR_STORAGE_RANGE_START + 1)),
-        on_main_line * (nv.at(COL_S_OP0_START + 2) - lv.at(COL_ADDR_STORAGE_RANGE_START + 2)),
-        on_main_line * (nv.at(COL_S_OP0_START + 3) - lv.at(COL_ADDR_STORAGE_RANGE_START + 3)),
-        on_main_line * (nv.at(COL_S_OP0_START + 4) - lv.at(COL_ADDR_CODE_RANGE_START)),
-        on_main_line * (nv.at(COL_S_OP0_START + 5) - lv.at(COL_ADDR_CODE_RANGE_START + 1)),
-        on_main_line * (nv.at(COL_S_OP0_START + 6) - lv.at(COL_ADDR_CODE_RANGE_START + 2)),
-        on_main_line * (nv.at(COL_S_OP0_START + 7) - lv.at(COL_ADDR_CODE_RANGE_START + 3)),
-    ]
+    std::array::from_fn(|i| {
+        let column = if i < 4 {
+            COL_ADDR_STORAGE_RANGE_START + i
+        } else {
+            COL_ADDR_CODE_RANGE_START + (i - 4)
+        };
+        on_main_line * (nv.at(COL_S_OP0_START + i) - lv.at(column))
+    })
 }
 
 // 193 to 196: the operands in the ext line of sccall and of end

@@ -5,5 +5,5 @@
 use stream_lines::Faults;
 
 fn main(rt: HostRuntime) {
-    stream_reading::run::<Faults>(rt, b"faults");
+    stream_reading::run::<Faults>(rt, "faults");
 }

@@ -5,5 +5,5 @@
 use stream_lines::Counts;
 
 fn main(rt: HostRuntime) {
-    stream_reading::run::<Counts>(rt, b"rowdesk");
+    stream_reading::run::<Counts>(rt, "rowdesk");
 }

@@ -32,13 +32,12 @@ pub fn feed_rows<T: PairText<N>, const N: usize>(
     ensures some { s.state.running ≡ true → 0 < rows_in bytes.now → length out.old + pair_bytes ≤ N → 0 < result.rows }
 {
     let mut after = s;
-    let rows = bytes.len() / ROW_BYTES;
-    for i in 0..rows {
+    for (i, row) in bytes.chunks_exact(ROW_BYTES).enumerate() {
         if !after.state.running || out.room() < PAIR_BYTES {
             return Block { after, rows: i };
         }
-        let from = ROW_BYTES * i;
-        after = stream_steps::feed::<T, N>(after, &bytes[from..from + ROW_BYTES], out);
+        after = stream_steps::feed::<T, N>(after, row, out);
     }
+    let rows = bytes.len() / ROW_BYTES;
     Block { after, rows }
 }

@@ -44,7 +44,7 @@ fn read_part(rt: HostRuntime, part: &mut [u8]) -> Result<usize, NoCase>
     ensures { IfOk result (λ n. IsPrefixLen n part.new) }
 {
     let mut size = [0u8; SIZE_BYTES];
-    let got = compared_line::read_full(rt.stdin(), &mut size);
+    let got = compared_line::read_full(rt.stdin(), &mut size).bytes;
     if got == 0 {
         return Err(NoCase::End);
     }
@@ -53,7 +53,7 @@ fn read_part(rt: HostRuntime, part: &mut [u8]) -> Result<usize, NoCase>
         return Err(NoCase::Malformed);
     }
     let n = n as usize;
-    if compared_line::read_full(rt.stdin(), &mut part[..n]) != n {
+    if compared_line::read_full(rt.stdin(), &mut part[..n]).bytes != n {
         return Err(NoCase::Malformed);
     }
     Ok(n)
@@ -70,7 +70,7 @@ fn replay_case<T: PairText<PAIR_BYTES>>(rt: HostRuntime) -> Result<bool, NoCase>
 
 // Replays the cases of the program that prints this text of each pair, and prints how many differ.
 pub fn run<T: PairText<PAIR_BYTES>>(rt: HostRuntime) {
-    compared_line::compare(rt.stdout(), b"cases", b", then a malformed case", || {
+    compared_line::compare(rt.stdout(), "cases", ", then a malformed case", || {
         replay_case::<T>(rt)
     });
 }

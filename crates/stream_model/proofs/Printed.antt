@@ -1,4 +1,5 @@
--- What a program prints on the rows of an input: the texts of their pairs in order, and the line of the refusal that ends it, if one does.
+-- What a program prints on the rows of an input: the texts of their pairs in order, and the line of the refusal that
+-- ends it, if one does.
 use mathlib.Core.Path.{◌≡◌, refl, sym, ap, ap₂, ◌∙◌}
 use mathlib.Core.Bool.{Bool, true, false, cond, not, ◌||◌}
 use mathlib.Core.List.{List, [], ◌∷◌, ◌++◌, append_assoc, append-nil}
@@ -226,7 +227,8 @@ module _ (text : PairText) (input : List ℕ) where
       rw (l, e) (ap (λ (l : List ℕ). refused_of 5 ++ l) (ended_steps text _ _ _ refl) ∙ append-nil _)
 
   module _ (n : ℕ) where
-    -- an input of 25 masks and n rows that are accepted, as a run is: the texts of the run's pairs, in order, and nothing else
+    -- an input of 25 masks and n rows that are accepted, as a run is: the texts of the run's pairs, in order, and
+    -- nothing else
     pub prints_texts : length input ≡ 200 + 752 * n → run_refusal (run_in n input) (masks_in input) ≡ 0
         → output_of text input ≡ texts_from text 0 (pairs_of (run_in n input) (masks_in input))
     unfolding output_of pairs_of
@@ -242,8 +244,8 @@ module _ (text : PairText) (input : List ℕ) where
         ∙ closes text (drop 200 input) (masks_in input) n (omega arith) (omega (arith, k.1)) (not-false _ c.1.1.1.0) (n - 1) m d
         ∙ ap (λ (k : ℕ). texts_from text 0 (tabulate (pair_at (run_in n input) (masks_in input) k) 0 k)) (sym q)
 
-    -- one of which n rows are accepted and what follows them is turned back: the texts of the pairs that were whole stand, and the line
-    -- of the refusal follows
+    -- one of which n rows are accepted and what follows them is turned back: the texts of the pairs that were whole
+    -- stand, and the line of the refusal follows
     pub prints_refusal : 200 + 752 * n ≤ length input → n ≤ 65536
         → (mask_contents (masks_in input)).holds ≡ false → canonical (run_in n input) ≡ true
         → (refusal_after n (drop (752 * n) (drop 200 input)) ≡ 0 → ⊥)

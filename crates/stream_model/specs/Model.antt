@@ -1,4 +1,5 @@
--- What a program that reads such an input prints, step by step: rowdesk, and every program that differs from it in the text of a pair alone.
+-- What a program that reads such an input prints, step by step: rowdesk, and every program that differs from it in the
+-- text of a pair alone.
 use Rattle.std.specs.Prelude.{◌≡◌, true, false, cond, ◌||◌, List, [], ◌∷◌, ◌++◌, ℕ, zero, suc, ◌+◌, ◌-◌, ◌*◌, length, take, drop, replicate, eqb, leb, ltb}
 use Rattle.refusals.specs.Refusal.{mask_contents, row_contents}
 use Rattle.table.specs.Columns.{NUM-CPU-COLS}
@@ -100,7 +101,8 @@ module _ (text : PairText) where
         | false ↦ []
       ]
 
-  -- the texts of all steps: each but the last takes a byte, so that there are at most so many (`rows_step` of proofs/Steps.antt)
+  -- the texts of all steps: each but the last takes a byte, so that there are at most so many (`rows_step` of
+  -- proofs/Steps.antt)
   abbrev pub rows_of : State → List ℕ → List ℕ
   rows_of s input = steps_of (suc (length input)) s input
 
@@ -117,8 +119,9 @@ module _ (text : PairText) where
 abbrev pub followed : List ℕ → List ℕ → ℕ → List ℕ
 followed run masks j = pair_values masks (row_at run j) (row_at run (suc j)) 1 (first_weight j)
 
--- "per row, taken whole before its contents are judged, 1 for a partial row, no row or a 65,537th, else 6": the number with which what
--- follows n accepted rows is turned back; 0 where it begins with a row that is accepted, or is the end behind at least one
+-- "per row, taken whole before its contents are judged, 1 for a partial row, no row or a 65,537th, else 6": the number
+-- with which what follows n accepted rows is turned back; 0 where it begins with a row that is accepted, or is the end
+-- behind at least one
 abbrev pub refusal_after : ℕ → List ℕ → ℕ
 refusal_after n rest =
     cond (eqb (length rest) 0) (cond (eqb n 0) 1 0)

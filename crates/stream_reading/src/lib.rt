@@ -23,18 +23,21 @@ const BLOCK_BYTES: usize = 87 * ROW_BYTES;
 // Texts are gathered in 64 KiB: room for those of nine pairs with all their values not 0, and for those of most blocks.
 pub const TEXT_BYTES: usize = 65_536;
 
+// What a program says of a failed read.
+const UNREADABLE: &str = "standard input could not be read";
+
 // A program, by its name and the runtime that it is given.
 #[derive(Clone, Copy)]
 struct Program<'a> {
     rt: HostRuntime,
-    name: &'a [u8],
+    name: &'a str,
 }
 
 impl Program<'_> {
     // Says on standard error what the program could not do.
-    fn failed(self, what: &[u8]) {
-        let _ = self.rt.stderr().write_all(self.name);
-        let _ = self.rt.stderr().write_all(what);
+    fn failed(self, what: &str) {
+        let name = self.name;
+        let _ = eprintln!(self.rt; "{name}: {what}");
     }
 
     // One read: how many bytes, none at the end of the input; or nothing, where it failed.
@@ -44,7 +47,7 @@ impl Program<'_> {
         match self.rt.stdin().read(bytes) {
             Ok(got) => Some(got),
             Err(_) => {
-                self.failed(b": standard input could not be read\n");
+                self.failed(UNREADABLE);
                 None
             }
         }
@@ -54,15 +57,12 @@ impl Program<'_> {
     fn read_full(self, bytes: &mut [u8]) -> Option<usize>
         ensures { IfSome result (λ n. IsPrefixLen n bytes.new) }
     {
-        let mut n = 0;
-        while n < bytes.len() {
-            let got = self.read_some(&mut bytes[n..])?;
-            if got == 0 {
-                break;
-            }
-            n += got;
+        let filled = compared_line::read_full(self.rt.stdin(), bytes);
+        if filled.failed {
+            self.failed(UNREADABLE);
+            return None;
         }
-        Some(n)
+        Some(filled.bytes)
     }
 
     // Prints the text. A failed write ends the program.
@@ -71,7 +71,7 @@ impl Program<'_> {
     {
         let mut after = s;
         if self.rt.stdout().write_all(text).is_err() {
-            self.failed(b": standard output could not be written\n");
+            self.failed("standard output could not be written");
             after.state.running = false;
         }
         after
@@ -79,12 +79,12 @@ impl Program<'_> {
 
     // Takes what was read for the masks, and prints the refusal if there is one.
     fn begin(self, bytes: &[u8], out: &mut TextBuffer<TEXT_BYTES>) -> SoundState {
-        out.clear();
         let after = stream_steps::start(bytes, out);
         self.print(after, out.bytes())
     }
 
     // Feeds the whole rows of a block, and prints their texts: with one call, unless the buffer fills up before.
+    // Kept: only a call tells how many rows it fed, so no iterator over the bytes gives what it left.
     fn block<T: PairText<TEXT_BYTES>>(
         self,
         s: SoundState,
@@ -163,7 +163,7 @@ impl Program<'_> {
 }
 
 // Runs a program of this name that prints this text of each pair.
-pub fn run<T: PairText<TEXT_BYTES>>(rt: HostRuntime, name: &[u8]) {
+pub fn run<T: PairText<TEXT_BYTES>>(rt: HostRuntime, name: &str) {
     let program = Program { rt, name };
     let mut masks = [0u8; MASK_BYTES];
     if let Some(n) = program.read_full(&mut masks) {

@@ -2,7 +2,7 @@
 // what to print, which it puts behind what the buffer holds.
 #![tactic(auto)]
 
-ghost use Rattle.std.specs.Prelude.{◌≡◌, ◌++◌, ◌+◌, ◌≤◌, ◌<◌, length};
+ghost use Rattle.std.specs.Prelude.{◌≡◌, [], ◌++◌, ◌+◌, ◌≤◌, ◌<◌, length};
 ghost use Rattle.refusals.specs.Refusal.{number};
 ghost use Rattle.table.specs.Rows.{Row as IsRow};
 ghost use Rattle.stream_text.specs.Room.{pair_bytes};
@@ -20,6 +20,8 @@ use table::masks::NUM_MASKS;
 use table::{Masks, NUM_VALUES, Pair, Row};
 use text::TextBuffer;
 
+// What turns a run back ends it with a line.
+// Kept: each text uses up the room that it asks for, so no invariant of the buffer says that there is room.
 fn refuse<const N: usize>(s: SoundState, refusal: Refusal, out: &mut TextBuffer<N>) -> SoundState
     requires { length out.old + pair_bytes ≤ N }
     ensures { Gives (refused_by s.state (number refusal)) result.state out.old out.new }
@@ -166,12 +168,14 @@ fn with_masks<const N: usize>(masks: [u64; NUM_MASKS], out: &mut TextBuffer<N>) 
     next
 }
 
-// The step on what was read for the masks: fewer bytes than they have where the input ends.
+// The step on what was read for the masks: fewer bytes than they have where the input ends. The buffer then holds what
+// it prints, and nothing of before.
 #[tactic(auto, unfolding(stream_model::specs::Model::start_of))]
 pub fn start<const N: usize>(bytes: &[u8], out: &mut TextBuffer<N>) -> SoundState
-    requires { length out.old + pair_bytes ≤ N }
-    ensures { Gives (start_of bytes.now) result.state out.old out.new }
+    requires { pair_bytes ≤ N }
+    ensures { Gives (start_of bytes.now) result.state [] out.new }
 {
+    out.clear();
     if bytes.len() == MASK_BYTES {
         let mut masks = [0u64; NUM_MASKS];
         words::decode(bytes, &mut masks);

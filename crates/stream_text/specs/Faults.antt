@@ -10,7 +10,8 @@ pub record Fault : Type 0 where
   pub number : ℕ
   pub signed : ℤ
 
--- "one line for each and no other, .. numbers rising within a pair": of the values of a pair, the first of which has the number k
+-- "one line for each and no other, .. numbers rising within a pair": of the values of a pair, the first of which has
+-- the number k
 unfoldable pub pair_faults : ℕ → ℕ → List ℕ → List Fault
 pair_faults pair k [] = []
 pair_faults pair k (v ∷ vs) =

@@ -18,7 +18,7 @@ pub fn decode(bytes: &[u8], out: &mut [u64])
     requires { length bytes.now ≡ 8 * length out.old }
     ensures { out.new ≡ words (length out.old) bytes.now }
 {
-    for i in 0..out.len() {
-        out[i] = word(&bytes[8 * i..]);
+    for (i, value) in out.iter_mut().enumerate() {
+        *value = word(&bytes[8 * i..]);
     }
 }

@@ -1,11 +1,11 @@
 -- `stream_cases::agrees` meets its contract.
-use mathlib.Core.Path.{sym, ◌∙◌}
+use mathlib.Core.Path.{refl, sym, ◌∙◌}
 use Rattle.stream_cases.proofs.Laws.{stripped, none_left, printed_start, printed_row, printed_all}
 use Rattle.stream_cases.proofs.agrees.Goals as goal
 
 pub loop-after-init : goal.loop-after-init
 loop-after-init g c =
-    printed_start c.new-out.ensures c.min.ensures c.split_at.ensures.front c.split_at.ensures.back c.start-after.ensures
+    printed_start refl c.min.ensures c.split_at.ensures.front c.split_at.ensures.back c.start-after.ensures
     (stripped c.bytes.ensures.value c.in-Some.ensures.cases)
 
 pub loop-after-preserved : goal.loop-after-preserved

@@ -12,5 +12,12 @@ use Rattle.stream_lines.proofs.fault.Goals as goal
 pub push_byte-requires : goal.push_byte-requires
 push_byte-requires g c = (
   search rules,
-  omega (arith, ap (λ (l : List ℕ). length l) c.put_signed.ensures, length-append {A = ℕ}, signed_short c.args.value, pair_digits c.args.pair c.requires.pair, number_digits c.args.number c.requires.number),
+  omega (
+    arith,
+    ap (λ (l : List ℕ). length l) c.put_signed.ensures,
+    length-append {A = ℕ},
+    signed_short c.args.value,
+    pair_digits c.args.pair c.requires.pair,
+    number_digits c.args.number c.requires.number,
+  ),
 )
