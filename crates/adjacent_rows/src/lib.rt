@@ -51,7 +51,7 @@ impl<'a, 'b> CpuAdjacentRowWrapper<'a, 'b> {
     }
 }
 
-// Plain parameters: the record is made and opened inside, so that a caller's proof needs no walk.
+// Plain parameters, for callers that keep no record: it is made and opened inside.
 pub fn adjacent_values(
     masks: &[u64],
     lv: &[u64],

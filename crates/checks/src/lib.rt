@@ -11,7 +11,7 @@ use table::columns::NUM_CPU_COLS;
 use table::masks::NUM_MASKS;
 use table::{Masks, Row};
 
-// Every number is below p. No turn ends the loop early, so that several numbers are tested at once.
+// Every number is below p. Each number is tested, also behind one that is not, so that several are tested at once.
 pub fn canonical(numbers: &[u64]) -> bool
     ensures { result ≡ is_canonical numbers.now }
 {
@@ -42,6 +42,37 @@ pub fn sizes(masks: &[u64], lv: &[u64], nv: &[u64]) -> Result<(), Refusal>
     Ok(())
 }
 
+// The contents of 25 masks are theirs.
+pub fn mask_contents(masks: &[u64]) -> Result<(), Refusal>
+    requires { length masks.now ≡ 25 }
+    ensures { number_of result ≡ lowest (mask_contents masks.now ∷ []) }
+{
+    if !canonical(masks) || !distinct(&masks[0..5]) {
+        return Err(Refusal::MaskContents);
+    }
+    Ok(())
+}
+
+// The contents of a row are its own, of any length.
+fn row_contents(row: &[u64]) -> Result<(), Refusal>
+    ensures { number_of result ≡ lowest (row_contents row.now ∷ []) }
+{
+    if !canonical(row) {
+        return Err(Refusal::RowContents);
+    }
+    Ok(())
+}
+
+// The contents of 25 masks and of a pair of rows, of any length, are theirs.
+pub fn contents(masks: &[u64], lv: &[u64], nv: &[u64]) -> Result<(), Refusal>
+    requires { length masks.now ≡ 25 }
+    ensures { number_of result ≡ lowest (content_conditions masks.now lv.now nv.now) }
+{
+    mask_contents(masks)?;
+    row_contents(lv)?;
+    row_contents(nv)
+}
+
 // The masks, as a type, of 25 words.
 #[tactic(auto, using(refusals::proofs::Laws::below_p))]
 pub fn masks(words: &[u64]) -> Result<Masks, Refusal>
@@ -49,11 +80,8 @@ pub fn masks(words: &[u64]) -> Result<Masks, Refusal>
     ensures number { number_of result ≡ lowest (mask_contents words.now ∷ []) }
     ensures value { IfOk result (λ masks. masks ≡ words.now) }
 {
-    if canonical(words) && distinct(&words[0..5]) {
-        Ok(Masks::lend(words))
-    } else {
-        Err(Refusal::MaskContents)
-    }
+    mask_contents(words)?;
+    Ok(Masks::lend(words))
 }
 
 // A row, as a type, of 94 words.
@@ -63,15 +91,13 @@ pub fn row(words: &[u64]) -> Result<Row, Refusal>
     ensures number { number_of result ≡ lowest (row_contents words.now ∷ []) }
     ensures value { IfOk result (λ row. row ≡ words.now) }
 {
-    if canonical(words) {
-        Ok(Row::lend(words))
-    } else {
-        Err(Refusal::RowContents)
-    }
+    row_contents(words)?;
+    Ok(Row::lend(words))
 }
 
 // The masks and a pair of rows, as types, of 25 and 94 words.
-pub fn contents<'a>(
+#[tactic(auto, using(refusals::proofs::Laws::below_p))]
+pub fn lent<'a>(
     masks: &'a [u64],
     lv: &'a [u64],
     nv: &'a [u64],
@@ -82,7 +108,8 @@ pub fn contents<'a>(
     ensures number { number_of result ≡ lowest (content_conditions masks.now lv.now nv.now) }
     ensures value { IfOk result (λ accepted. accepted ≡ (masks.now, lv.now, nv.now)) }
 {
-    Ok((self::masks(masks)?, row(lv)?, row(nv)?))
+    contents(masks, lv, nv)?;
+    Ok((Masks::lend(masks), Row::lend(lv), Row::lend(nv)))
 }
 
 // A weight, a lone operand or a folded value, as a type.

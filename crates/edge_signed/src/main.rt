@@ -37,8 +37,7 @@ fn unsigned(rt: HostRuntime, value: i64) -> Result<u64, Refusal>
 
 // A residue and its signed number: there, and back.
 fn both(rt: HostRuntime, residue: u64, value: i64)
-    requires there { to_signed residue ≡ Gives value }
-    requires back { to_residue value ≡ Gives residue }
+    requires { (to_signed residue ≡ Gives value) × (to_residue value ≡ Gives residue) }
 {
     check::expect(signed(rt, residue) == Ok(value));
     check::expect(unsigned(rt, value) == Ok(residue));

@@ -26,7 +26,7 @@ pub fn accept<'a>(
     if room < NUM_VALUES {
         return Err(Refusal::ValueBuffer);
     }
-    let (masks, lv, nv) = checks::contents(masks, lv, nv)?;
+    let (masks, lv, nv) = checks::lent(masks, lv, nv)?;
     Ok(Pair {
         masks,
         lv,

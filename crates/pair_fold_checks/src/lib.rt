@@ -58,7 +58,7 @@ pub fn accept<'a>(
 {
     checks::sizes(masks, lv, nv)?;
     counts(alphas.len(), accs.len())?;
-    let (masks, lv, nv) = checks::contents(masks, lv, nv)?;
+    let (masks, lv, nv) = checks::lent(masks, lv, nv)?;
     let (z_last, lagrange_basis_first) = numbers(z_last, lagrange_basis_first, alphas, accs)?;
     Ok(Pair {
         masks,

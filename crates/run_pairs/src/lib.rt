@@ -49,7 +49,7 @@ impl<'a> Run<'a> {
         if masks.len() != NUM_MASKS {
             return Err(Refusal::MaskCount);
         }
-        let _ = checks::masks(masks)?;
+        checks::mask_contents(masks)?;
         if !checks::canonical(words) {
             return Err(Refusal::RowContents);
         }
