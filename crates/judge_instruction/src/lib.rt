@@ -10,7 +10,7 @@ ghost use Rattle.rulebook.specs.Rulebook.{word_part, operand_rules, rules_F, rul
 ghost use Rattle.judge_columns.specs.Group.{keeps_rules};
 ghost use Rattle.judge_kinds.specs.Kind.{number_of_kind};
 
-use judge_columns::{bit, bits, chosen, equal, off, on, ones};
+use judge_columns::{all_bits, chosen_equal, equal, is_bit, off, on, ones};
 use judge_kinds::kinds::Kind;
 use judge_opcode::has_opcode;
 use residue::{Residue, mul_add};
@@ -31,8 +31,8 @@ pub fn keeps_opcode_selector(masks: &Masks, lv: &Row, kind: Option<Kind>) -> boo
     ensures { result ≡ keeps_rules rules_F masks.now lv.now [] (number_of_kind kind) false false }
 {
     // the 19 selectors are 0 or 1, exactly one is 1.
-    bits(lv, COL_S_SIMPLE_ARITHMATIC_OP, NUM_OP_SELECTOR)
-        & (ones(lv, COL_S_SIMPLE_ARITHMATIC_OP, NUM_OP_SELECTOR) == 1)
+    all_bits(lv, COL_S_SIMPLE_ARITHMATIC_OP, NUM_OP_SELECTOR)
+        & (ones(lv.words(), COL_S_SIMPLE_ARITHMATIC_OP, NUM_OP_SELECTOR) == 1)
         // OPCODE is that one's mask; for arithmetic one of the first five, for bitwise AND, OR or XOR.
         & has_opcode(masks, lv, kind)
 }
@@ -63,7 +63,7 @@ pub fn keeps_instruction_encode(lv: &Row) -> bool
     let to_op1 = to_op0 + word_part(lv, COL_S_OP1_START, S_OP1_SHIFT);
     let word = to_op1 + word_part(lv, COL_S_DST_START, S_DST_SHIFT);
     // OP1_IMM is 0 or 1.
-    bit(op1_imm)
+    is_bit(op1_imm)
         // Main → INST = OP1_IMM·2^62 + OPCODE + sums of S_OP0[i]·2^(52+i), S_OP1[i]·2^(42+i), S_DST[i]·2^(32+i);
         & (!main | equal(lv.at(COL_INST), word))
         // with OP1_IMM 1, OP1 = IMM_VAL.
@@ -79,9 +79,9 @@ pub fn keeps_operand<'a>(lv: &Row<'a>, s: usize, regs: &Row<'a>, o: usize) -> bo
     ensures current { regs.now ≡ lv.now → result ≡ keeps_rules (λ x j. operand_rules x j s lv_of (lv_of o)) [] lv.now [] 0 false false }
 {
     let main = off(lv, COL_IS_EXT_LINE);
-    (!main | bits(lv, s, REGISTER_NUM))
-        & (!main | (ones(lv, s, REGISTER_NUM) <= 1))
-        & (!main | chosen(lv, s, regs, o))
+    (!main | all_bits(lv, s, REGISTER_NUM))
+        & (!main | (ones(lv.words(), s, REGISTER_NUM) <= 1))
+        & (!main | chosen_equal(lv, s, regs, o))
 }
 
 // H: OP0 and OP1 equal registers of the current row, DST one of the next row.
