@@ -38,17 +38,19 @@ pub fn keeps_opcode_selector(masks: &Masks, lv: &Row, kind: Option<Kind>) -> boo
 }
 
 // Ten selectors from column s on as a part of the instruction word, the first shifted by `shift`.
-// Kept: `row_sums::from_digits` has the selectors as binary digits; the rulebook's sentence gives each its own power of 2, which this follows.
 pub fn word_part(lv: &Row, s: usize, shift: u32) -> Residue
     requires columns { s + REGISTER-NUM ≤ NUM-CPU-COLS }
     requires places { shift + REGISTER-NUM ≤ 64 }
     ensures { result ≡ eval residues (cells [] lv.now [] 0 0) (word_part s shift) }
 {
     let columns = lv.words();
-    let mut word = 0u64;
-    for i in 0..REGISTER_NUM {
-        word = mul_add(columns[s + i], 1u64 << (shift + i as u32), word);
-    }
+    let word = columns[s..s + REGISTER_NUM]
+        .iter()
+        .zip(shift..shift + REGISTER_NUM as u32)
+        .fold(
+            0,
+            |word, (&selector, place)| mul_add(selector, 1 << place, word),
+        );
     Residue::new(word)
 }
 
