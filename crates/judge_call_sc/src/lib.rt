@@ -6,7 +6,7 @@ ghost use Rattle.rulebook.specs.Rulebook.{rules_N};
 ghost use Rattle.judge_columns.specs.Group.{keeps_rules};
 ghost use Rattle.judge_kinds.specs.Kind.{number_of_kind};
 
-use judge_columns::{addresses_kept, carried, kept, off, on, same, zeros};
+use judge_columns::{addresses_kept, all_carried, all_off, carried, kept, off, on};
 use judge_kinds::kinds::Kind;
 use judge_kinds::step::Step;
 use table::columns::*;
@@ -22,11 +22,11 @@ pub fn keeps_call_sc_context(step: &Step, last: bool) -> bool
     let call_sc = step.is(Kind::CallSc);
     let storage = COL_ADDR_STORAGE_RANGE_START;
     let code = COL_ADDR_CODE_RANGE_START;
-    let storage_held = same(nv, COL_S_OP0_START, lv, storage, CTX_REGISTER_NUM);
-    let code_held = same(nv, COL_S_OP0_CODE, lv, code, CTX_REGISTER_NUM);
+    let storage_held = all_carried(lv, storage, nv, COL_S_OP0_START, CTX_REGISTER_NUM);
+    let code_held = all_carried(lv, code, nv, COL_S_OP0_CODE, CTX_REGISTER_NUM);
     let operands_kept = storage_held & code_held & kept(lv, nv, COL_OP0) & kept(lv, nv, COL_OP1);
     let handed_on = carried(lv, COL_ENV_IDX, nv, COL_AUX0) & carried(lv, COL_CLK, nv, COL_AUX1);
-    let cleared = off(nv, COL_CLK) & off(nv, COL_PC) & zeros(nv, COL_REGS_START, REGISTER_NUM);
+    let cleared = off(nv, COL_CLK) & off(nv, COL_PC) & all_off(nv, COL_REGS_START, REGISTER_NUM);
     // CALL_SC main → S_OP0[0..3]' and [4..7]' hold storage and code address, OP0, OP1 kept.
     (!(call_sc & off(lv, COL_IS_EXT_LINE)) | operands_kept)
         // [t] END, not diff → AUX0' = ENV_IDX, AUX1' = CLK.

@@ -1,54 +1,40 @@
--- How a loop goes through a run of columns.
-use Prim.Native.Nat.{ℕ, suc, ◌+◌, ◌-◌, ◌<◌}
+-- How many words of a run are 1.
+use Prim.Native.Nat.{ℕ, zero, suc, ◌+◌, ◌-◌, ◌<◌, ◌≤◌}
 use native.Mathlib.Omega.{arith}
-use mathlib.Core.Path.{◌≡◌, sym, ◌∙◌}
-use mathlib.Core.Bool.{cond}
+use mathlib.Core.Path.{◌≡◌, refl, ap, ap₂, ◌∙◌}
+use mathlib.Core.Bool.{Bool, cond}
+use mathlib.Core.List.{List, [], ◌∷◌}
+use lib.ListN.{length, get_or, take, drop}
 use lib.Dec.{eqb}
-use borrow.Author.Tests.{ne_eqb}
-use Rattle.rulebook.specs.Kind.{ones, first_one}
+use Rattle.std.specs.List.{count_by}
+use Rattle.std.proofs.lemmas.List.Sums.{sum_by-cons, count_by-le-length}
+use Rattle.rulebook.specs.Kind.{ones}
+use Rattle.judge_columns.proofs.Runs.{part-length, part_at}
 
--- the numbers g a, g (a + 1), .., n of them, at the place i
-module _ (g : ℕ → ℕ) (a n i : ℕ) (h : i < n) where
-  here : n - i ≡ suc (n - (i + 1))
-  here = omega arith
+abbrev pub is-one : ℕ → Bool
+is-one x = eqb x 1
 
-  there : suc (a + i) ≡ a + (i + 1)
-  there = omega arith
+ones-places : (g : ℕ → ℕ) (xs : List ℕ) (a n : ℕ) → length xs ≡ n → ((i : ℕ) → i < n → get_or xs i 0 ≡ g (a + i)) → count_by is-one xs ≡ ones g a n
+unfolding ones
+ones-places g [] a zero e h = refl
+ones-places g [] a (suc n) e h = absurd (omega (arith, e))
+ones-places g (y ∷ ys) a zero e h = absurd (omega (arith, e))
+ones-places g (y ∷ ys) a (suc n) e h =
+    sum_by-cons (λ x. cond (is-one x) 1 0) y ys
+    ∙ ap₂ ◌+◌
+    (ap (λ (x : ℕ). cond (is-one x) 1 0) (h zero (omega arith) ∙ ap g (omega arith)))
+    (ones-places g ys (suc a) n (omega (arith, e)) (λ i l. h (suc i) (omega arith) ∙ ap g (omega arith)))
 
-  ones-at : ones g (a + i) (n - i) ≡ cond (eqb (g (a + i)) 1) 1 0 + ones g (a + (i + 1)) (n - (i + 1))
-  unfolding ones
-  ones-at = rw (here, there)
+-- n words of a list from place a on, as Rust cuts them
+module _ (l : List ℕ) (a n : ℕ) (h : a + n ≤ length l) where
+  abbrev part : List ℕ
+  part = take (a + n - a) (drop a l)
 
-  first_one-at : first_one g (a + i) (n - i) ≡ cond (eqb (g (a + i)) 1) 0 (suc (first_one g (a + (i + 1)) (n - (i + 1))))
-  unfolding first_one
-  first_one-at = rw (here, there)
+  cut : part ≡ take n (drop a l)
+  cut = ap (λ (k : ℕ). take k (drop a l)) (omega arith)
 
-  -- a turn of a loop that counts those that are 1
-  pub ones-one : (s count : ℕ) → g (a + i) ≡ 1 → s ≡ count + ones g (a + i) (n - i) → s ≡ count + 1 + ones g (a + (i + 1)) (n - (i + 1))
-  ones-one s count e k = k ∙ rw (ones-at, e) (omega arith)
+  pub ones_bound : count_by is-one part ≤ n
+  ones_bound = rw cut (omega (arith, count_by-le-length is-one (take n (drop a l)), part-length l a n h))
 
-  pub ones_other : (s count : ℕ) → (g (a + i) ≡ 1 → ⊥) → s ≡ count + ones g (a + i) (n - i) → s ≡ count + ones g (a + (i + 1)) (n - (i + 1))
-  ones_other s count e k = k ∙ rw (ones-at, ne_eqb _ _ e) (omega arith)
-
-  -- a turn of a loop that looks for the first that is 1
-  pub first_one_here : (s : ℕ) → g (a + i) ≡ 1 → s ≡ i + first_one g (a + i) (n - i) → s ≡ i
-  first_one_here s e k = k ∙ rw (first_one-at, e) (omega arith)
-
-  pub first_one_later : (s : ℕ) → (g (a + i) ≡ 1 → ⊥) → s ≡ i + first_one g (a + i) (n - i) → s ≡ i + 1 + first_one g (a + (i + 1)) (n - (i + 1))
-  first_one_later s e k = k ∙ rw (first_one-at, ne_eqb _ _ e) (omega arith)
-
--- before the first turn, and behind the last
-module _ (g : ℕ → ℕ) (a n : ℕ) where
-  pub ones_none : ones g a n ≡ 0 + ones g (a + 0) (n - 0)
-  ones_none =
-      let e : a + 0 ≡ a = omega arith in
-      let d : n - 0 ≡ n = omega arith in
-      rw (e, d) (omega arith)
-
-  pub ones_all : (s count i : ℕ) → n - i ≡ 0 → s ≡ count + ones g (a + i) (n - i) → count ≡ s
-  unfolding ones
-  ones_all s count i e k = sym (k ∙ rw e (omega arith))
-
-  pub first_one_all : (s i : ℕ) → n - i ≡ 0 → s ≡ i + first_one g (a + i) (n - i) → i ≡ s
-  unfolding first_one
-  first_one_all s i e k = sym (k ∙ rw e (omega arith))
+  pub ones_counted : count_by is-one part ≡ ones (λ c. get_or l c 0) a n
+  ones_counted = rw cut (ones-places (λ c. get_or l c 0) (take n (drop a l)) a n (part-length l a n h) (part_at l a n h))

@@ -1,7 +1,8 @@
 // The words of the rulebook over rows: what a column says, and runs of columns.
 #![tactic(auto, unfolding(algebra::specs::Expr::eval, rulebook::specs::Rule::holds))]
 
-ghost use Rattle.std.specs.Prelude.{◌≡◌, ◌||◌, [], ◌+◌, ◌%◌, ◌<◌, ◌≤◌, get_or, eqb};
+ghost use Rattle.std.specs.Prelude.{◌≡◌, not, ◌||◌, [], ◌+◌, ◌%◌, ◌<◌, ◌≤◌, length, get_or, take, drop, zip, eqb};
+ghost use Rattle.std.specs.List.{list_all};
 ghost use Rattle.algebra.specs.Prime.{p};
 ghost use Rattle.algebra.specs.Expr.{eval};
 ghost use Rattle.algebra.specs.Lists.{range};
@@ -20,6 +21,77 @@ use table::columns::*;
 // The last register is fp.
 pub const FP: usize = REGISTER_NUM - 1;
 
+// The tests of words, which may be any. They ask each word, with no branch, so that they are vectorised.
+
+// Whether a word is 0 or 1.
+pub fn bit(x: u64) -> bool
+    ensures { result ≡ (eqb x 0 || eqb x 1) }
+{
+    (x == 0) | (x == 1)
+}
+
+// Whether the n words from `start` on are 0.
+pub fn zeros(row: &[u64], start: usize, n: usize) -> bool
+    requires { start + n ≤ length row.now }
+    ensures { result ≡ list_all (λ x. eqb x 0) (take n (drop start row.now)) }
+{
+    row[start..start + n]
+        .iter()
+        .fold(true, |all, &x| all & (x == 0))
+}
+
+// Whether the n words from `start` on are 0 or 1.
+pub fn bits(row: &[u64], start: usize, n: usize) -> bool
+    requires { start + n ≤ length row.now }
+    ensures { result ≡ list_all (λ x. eqb x 0 || eqb x 1) (take n (drop start row.now)) }
+{
+    row[start..start + n]
+        .iter()
+        .fold(true, |all, &x| all & bit(x))
+}
+
+// How many of the n words from `start` on are 1.
+// A sum, since `filter` and `count` compile to a branch for each word, with which the judge takes 392 ns a pair for 350.
+pub fn ones(row: &[u64], start: usize, n: usize) -> usize
+    requires { start + n ≤ length row.now }
+    ensures { result ≡ ones_of (λ c. get_or row.now c 0) start n }
+{
+    row[start..start + n]
+        .iter()
+        .fold(0, |count, &x| count + (x == 1) as usize)
+}
+
+// Whether the n words of `a` from i on equal those of `b` from j on.
+pub fn same(a: &[u64], i: usize, b: &[u64], j: usize, n: usize) -> bool
+    requires left { i + n ≤ length a.now }
+    requires right { j + n ≤ length b.now }
+    ensures { result ≡ list_all (λ e. eqb e.0 e.1) (zip (take n (drop i a.now)) (take n (drop j b.now))) }
+{
+    a[i..i + n]
+        .iter()
+        .zip(&b[j..j + n])
+        .fold(true, |all, (x, y)| all & (x == y))
+}
+
+// Of the ten registers of `regs`, those whose selector in `row`, from word s on, is 1 equal word o of `row`.
+pub fn chosen(row: &[u64], s: usize, regs: &[u64], o: usize) -> bool
+    requires selectors { s + REGISTER-NUM ≤ length row.now }
+    requires registers { COL-REGS-START + REGISTER-NUM ≤ length regs.now }
+    requires operand { o < length row.now }
+    ensures { result ≡ list_all (λ e. not (eqb e.0 1) || eqb e.1 (get_or row.now o 0)) (zip (take REGISTER-NUM (drop s row.now)) (take REGISTER-NUM (drop COL-REGS-START regs.now))) }
+{
+    let operand = row[o];
+    row[s..s + REGISTER_NUM]
+        .iter()
+        .zip(&regs[COL_REGS_START..COL_REGS_START + REGISTER_NUM])
+        .fold(
+            true,
+            |all, (&selector, &register)| all & ((selector != 1) | (register == operand)),
+        )
+}
+
+// The words of the rulebook, of rows.
+
 // Whether two residues are equal; the contract has the form of the rulebook's equations.
 pub fn equal(a: Residue, b: Residue) -> bool
     ensures { result ≡ eqb (a % p) (b % p) }
@@ -28,11 +100,11 @@ pub fn equal(a: Residue, b: Residue) -> bool
 }
 
 // Whether a residue is 0 or 1.
-pub fn bit(x: Residue) -> bool
+pub fn is_bit(x: Residue) -> bool
     ensures value { result ≡ (eqb x 0 || eqb x 1) }
     ensures rule { result ≡ (eqb (x % p) 0 || eqb (x % p) 1) }
 {
-    (x == Residue::ZERO) | (x == Residue::ONE)
+    bit(x.value())
 }
 
 // Whether a column is 1.
@@ -65,7 +137,7 @@ pub fn grows(lv: &Row, nv: &Row, column: usize, n: u64) -> bool
     requires canonical { n < p }
     ensures { result ≡ holds (cells [] lv.now nv.now 0 0) (grows column n) }
 {
-    nv.at(column) == lv.at(column) + Residue::new(n)
+    equal(nv.at(column), lv.at(column) + Residue::new(n))
 }
 
 // Whether the next row has in column `to` what the current row has in column `from`.
@@ -77,46 +149,30 @@ pub fn carried<'a>(lv: &Row<'a>, from: usize, nv: &Row<'a>, to: usize) -> bool
     nv.at(to) == lv.at(from)
 }
 
-// Whether the n columns from `start` on are 0. The runs ask each column, with no branch, so that they are vectorised.
-pub fn zeros(row: &Row, start: usize, n: usize) -> bool
+// Whether the n columns from `start` on are 0.
+pub fn all_off(row: &Row, start: usize, n: usize) -> bool
     requires { start + n ≤ NUM-CPU-COLS }
     ensures { result ≡ holds (cells [] row.now [] 0 0) (every (range start n) off) }
 {
-    (start..start + n).fold(true, |all, column| all & off(row, column))
+    zeros(row.words(), start, n)
 }
 
 // Whether the n columns from `start` on are 0 or 1.
-pub fn bits(row: &Row, start: usize, n: usize) -> bool
+pub fn all_bits(row: &Row, start: usize, n: usize) -> bool
     requires { start + n ≤ NUM-CPU-COLS }
     ensures value { result ≡ bits_of (λ c. get_or row.now c 0) (range start n) }
     ensures rule { result ≡ holds (cells [] row.now [] 0 0) (every (range start n) (λ c. bit_of (lv_of c))) }
 {
-    (start..start + n).fold(true, |all, column| all & bit(row.at(column)))
+    bits(row.words(), start, n)
 }
 
-// How many of the n columns from `start` on are 1.
-// Kept: `filter` and `count` compile to a branch for each column, with which the judge takes 392 ns a pair for 350.
-pub fn ones(row: &Row, start: usize, n: usize) -> usize
-    requires { start + n ≤ NUM-CPU-COLS }
-    ensures { result ≡ ones_of (λ c. get_or row.now c 0) start n }
+// Whether the next row has in the n columns from `to` on what the current row has in those from `from` on.
+pub fn all_carried<'a>(lv: &Row<'a>, from: usize, nv: &Row<'a>, to: usize, n: usize) -> bool
+    requires current { from + n ≤ NUM-CPU-COLS }
+    requires next { to + n ≤ NUM-CPU-COLS }
+    ensures { result ≡ holds (cells [] lv.now nv.now 0 0) (every (range 0 n) (λ t. nv_of (to + t) ≐ lv_of (from + t))) }
 {
-    let columns = row.words();
-    let mut count = 0;
-    for i in 0..n {
-        if columns[start + i] == 1 {
-            count += 1;
-        }
-    }
-    count
-}
-
-// Whether the n columns of the next row from i on equal those of the current row from j on.
-pub fn same(nv: &Row, i: usize, lv: &Row, j: usize, n: usize) -> bool
-    requires next { i + n ≤ NUM-CPU-COLS }
-    requires current { j + n ≤ NUM-CPU-COLS }
-    ensures { result ≡ holds (cells [] lv.now nv.now 0 0) (every (range 0 n) (λ t. nv_of (i + t) ≐ lv_of (j + t))) }
-{
-    (0..n).fold(true, |all, t| all & equal(nv.at(i + t), lv.at(j + t)))
+    same(nv.words(), to, lv.words(), from, n)
 }
 
 // Both addresses are kept.
@@ -125,21 +181,18 @@ pub fn addresses_kept(lv: &Row, nv: &Row) -> bool
 {
     let storage = COL_ADDR_STORAGE_RANGE_START;
     let code = COL_ADDR_CODE_RANGE_START;
-    same(nv, storage, lv, storage, CTX_REGISTER_NUM) & same(nv, code, lv, code, CTX_REGISTER_NUM)
+    all_carried(lv, storage, nv, storage, CTX_REGISTER_NUM)
+        & all_carried(lv, code, nv, code, CTX_REGISTER_NUM)
 }
 
 // Of the ten registers of `regs`, those whose selector of `row`, from column s on, is 1 equal column o of `row`.
-pub fn chosen(row: &Row, s: usize, regs: &Row, o: usize) -> bool
+pub fn chosen_equal<'a>(row: &Row<'a>, s: usize, regs: &Row<'a>, o: usize) -> bool
     requires selectors { s + REGISTER-NUM ≤ NUM-CPU-COLS }
     requires operand { o < NUM-CPU-COLS }
     ensures next { result ≡ holds (cells [] row.now regs.now 0 0) (every (range 0 REGISTER-NUM) (λ i. on (s + i) ⇒ nv_of (COL-REGS-START + i) ≐ lv_of o)) }
     ensures current { regs.now ≡ row.now → result ≡ holds (cells [] row.now [] 0 0) (every (range 0 REGISTER-NUM) (λ i. on (s + i) ⇒ lv_of (COL-REGS-START + i) ≐ lv_of o)) }
 {
-    let operand = row.at(o);
-    (0..REGISTER_NUM).fold(
-        true,
-        |all, i| all & (!on(row, s + i) | equal(regs.at(COL_REGS_START + i), operand)),
-    )
+    chosen(row.words(), s, regs.words(), o)
 }
 
 // Registers 0 to 8 are kept where their selector as dst is not 1.

@@ -6,7 +6,7 @@ ghost use Rattle.rulebook.specs.Rulebook.{rules_D, rules_E};
 ghost use Rattle.judge_columns.specs.Group.{keeps_rules};
 ghost use Rattle.judge_kinds.specs.Kind.{number_of_kind};
 
-use judge_columns::{carried, equal, grows, kept, off, on, same};
+use judge_columns::{all_carried, carried, equal, grows, kept, off, on};
 use judge_kinds::kinds::Kind;
 use judge_kinds::selected::{ext_length, is_ext_kind, next_is_ext_kind};
 use judge_kinds::step::Step;
@@ -24,7 +24,7 @@ pub fn keeps_ext_lines(step: &Step) -> bool
     let cnt_grows = grows(lv, nv, COL_EXT_CNT, 1);
     let selectors = COL_S_SIMPLE_ARITHMATIC_OP;
     let instruction_kept = kept(lv, nv, COL_OPCODE)
-        & same(nv, selectors, lv, selectors, NUM_OP_SELECTOR)
+        & all_carried(lv, selectors, nv, selectors, NUM_OP_SELECTOR)
         & kept(lv, nv, COL_OP1_IMM);
     // not ext kind → main.
     (ext_kind | main)

@@ -6,7 +6,7 @@ ghost use Rattle.rulebook.specs.Rulebook.{rules_I, rules_J, rules_K};
 ghost use Rattle.judge_columns.specs.Group.{keeps_rules};
 ghost use Rattle.judge_kinds.specs.Kind.{number_of_kind};
 
-use judge_columns::{FP, bit, equal, grows, kept, kept_unless_dst, off, on};
+use judge_columns::{FP, equal, grows, is_bit, kept, kept_unless_dst, off, on};
 use judge_kinds::kinds::Kind;
 use judge_kinds::step::Step;
 use judge_pc_registers::{fp_free, pc_target, registers_free};
@@ -40,7 +40,7 @@ pub fn keeps_pc(step: &Step) -> bool
         // Next main, neither END nor CALL_SC → PC' is ..
         & (!(next_main & !end_or_call_sc) | equal(nv.at(COL_PC), target))
         // CJMP, next main → OP0 is 0 or 1.
-        & (!(step.is(Kind::Cjmp) & next_main) | bit(lv.at(COL_OP0)))
+        & (!(step.is(Kind::Cjmp) & next_main) | is_bit(lv.at(COL_OP0)))
 }
 
 // K

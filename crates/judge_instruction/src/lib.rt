@@ -10,7 +10,7 @@ ghost use Rattle.rulebook.specs.Rulebook.{word_part, operand_rules, rules_F, rul
 ghost use Rattle.judge_columns.specs.Group.{keeps_rules};
 ghost use Rattle.judge_kinds.specs.Kind.{number_of_kind};
 
-use judge_columns::{bit, bits, chosen, equal, off, on, ones};
+use judge_columns::{all_bits, chosen_equal, equal, is_bit, off, on, ones};
 use judge_kinds::kinds::Kind;
 use judge_opcode::has_opcode;
 use residue::{Residue, mul_add};
@@ -31,24 +31,26 @@ pub fn keeps_opcode_selector(masks: &Masks, lv: &Row, kind: Option<Kind>) -> boo
     ensures { result ≡ keeps_rules rules_F masks.now lv.now [] (number_of_kind kind) false false }
 {
     // the 19 selectors are 0 or 1, exactly one is 1.
-    bits(lv, COL_S_SIMPLE_ARITHMATIC_OP, NUM_OP_SELECTOR)
-        & (ones(lv, COL_S_SIMPLE_ARITHMATIC_OP, NUM_OP_SELECTOR) == 1)
+    all_bits(lv, COL_S_SIMPLE_ARITHMATIC_OP, NUM_OP_SELECTOR)
+        & (ones(lv.words(), COL_S_SIMPLE_ARITHMATIC_OP, NUM_OP_SELECTOR) == 1)
         // OPCODE is that one's mask; for arithmetic one of the first five, for bitwise AND, OR or XOR.
         & has_opcode(masks, lv, kind)
 }
 
 // Ten selectors from column s on as a part of the instruction word, the first shifted by `shift`.
-// Kept: `row_sums::from_digits` has the selectors as binary digits; the rulebook's sentence gives each its own power of 2, which this follows.
 pub fn word_part(lv: &Row, s: usize, shift: u32) -> Residue
     requires columns { s + REGISTER-NUM ≤ NUM-CPU-COLS }
     requires places { shift + REGISTER-NUM ≤ 64 }
     ensures { result ≡ eval residues (cells [] lv.now [] 0 0) (word_part s shift) }
 {
     let columns = lv.words();
-    let mut word = 0u64;
-    for i in 0..REGISTER_NUM {
-        word = mul_add(columns[s + i], 1u64 << (shift + i as u32), word);
-    }
+    let word = columns[s..s + REGISTER_NUM]
+        .iter()
+        .zip(shift..shift + REGISTER_NUM as u32)
+        .fold(
+            0,
+            |word, (&selector, place)| mul_add(selector, 1 << place, word),
+        );
     Residue::new(word)
 }
 
@@ -63,7 +65,7 @@ pub fn keeps_instruction_encode(lv: &Row) -> bool
     let to_op1 = to_op0 + word_part(lv, COL_S_OP1_START, S_OP1_SHIFT);
     let word = to_op1 + word_part(lv, COL_S_DST_START, S_DST_SHIFT);
     // OP1_IMM is 0 or 1.
-    bit(op1_imm)
+    is_bit(op1_imm)
         // Main → INST = OP1_IMM·2^62 + OPCODE + sums of S_OP0[i]·2^(52+i), S_OP1[i]·2^(42+i), S_DST[i]·2^(32+i);
         & (!main | equal(lv.at(COL_INST), word))
         // with OP1_IMM 1, OP1 = IMM_VAL.
@@ -79,9 +81,9 @@ pub fn keeps_operand<'a>(lv: &Row<'a>, s: usize, regs: &Row<'a>, o: usize) -> bo
     ensures current { regs.now ≡ lv.now → result ≡ keeps_rules (λ x j. operand_rules x j s lv_of (lv_of o)) [] lv.now [] 0 false false }
 {
     let main = off(lv, COL_IS_EXT_LINE);
-    (!main | bits(lv, s, REGISTER_NUM))
-        & (!main | (ones(lv, s, REGISTER_NUM) <= 1))
-        & (!main | chosen(lv, s, regs, o))
+    (!main | all_bits(lv, s, REGISTER_NUM))
+        & (!main | (ones(lv.words(), s, REGISTER_NUM) <= 1))
+        & (!main | chosen_equal(lv, s, regs, o))
 }
 
 // H: OP0 and OP1 equal registers of the current row, DST one of the next row.

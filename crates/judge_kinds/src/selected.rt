@@ -24,12 +24,13 @@ pub fn kind(lv: &Row) -> Option<Kind>
     ensures { number_of_kind result ≡ kind_of (cells [] lv.now [] 0 0) }
 {
     let columns = lv.words();
-    for (place, kind) in Kind::ALL.iter().enumerate() {
-        if columns[COL_S_SIMPLE_ARITHMATIC_OP + place] == 1 {
-            return Some(*kind);
-        }
-    }
-    None
+    let selectors = &columns[COL_S_SIMPLE_ARITHMATIC_OP..COL_S_SIMPLE_ARITHMATIC_OP
+        + NUM_OP_SELECTOR];
+    Kind::ALL
+        .iter()
+        .zip(selectors)
+        .find(|(_, selector)| **selector == 1)
+        .map(|(kind, _)| *kind)
 }
 
 // The kinds that may have ext lines.

@@ -19,6 +19,6 @@ impl<'a> Step<'a> {
     pub fn is(&self, kind: Kind) -> bool
         ensures { result ≡ eqb (number_of_kind self.now.kind) (kind_number kind) }
     {
-        self.kind == Some(kind)
+        kind.is(self.kind)
     }
 }

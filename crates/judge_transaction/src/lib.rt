@@ -6,7 +6,7 @@ ghost use Rattle.rulebook.specs.Rulebook.{rules_A, rules_B, rules_C};
 ghost use Rattle.judge_columns.specs.Group.{keeps_rules};
 ghost use Rattle.judge_kinds.specs.Kind.{number_of_kind};
 
-use judge_columns::{addresses_kept, bit, equal, grows, kept, off, on, zeros};
+use judge_columns::{addresses_kept, all_off, equal, grows, is_bit, kept, off, on};
 use judge_kinds::kinds::Kind;
 use judge_kinds::selected::ext_length;
 use judge_kinds::step::Step;
@@ -24,9 +24,9 @@ pub fn keeps_wrapper_cols(step: &Step, last: bool) -> bool
     let tx_grows = grows(lv, nv, COL_TX_IDX, 1);
     let length = ext_length(lv, step.kind);
     // pad is 0 or 1.
-    bit(pad)
+    is_bit(pad)
         // [t] pad' - pad is 0 or 1.
-        & (last | bit(pad_step))
+        & (last | is_bit(pad_step))
         // pad → END.
         & (!on(lv, COL_IS_PADDING) | step.is(Kind::End))
         // entry → ENV_IDX' 0.
@@ -48,13 +48,13 @@ pub fn keeps_tx_init(lv: &Row, nv: &Row, first: bool, last: bool) -> bool
         & off(lv, COL_CALL_SC_CNT)
         & off(lv, COL_CLK)
         & off(lv, COL_PC)
-        & zeros(lv, COL_REGS_START, REGISTER_NUM);
+        & all_off(lv, COL_REGS_START, REGISTER_NUM);
     let next_cleared = off(nv, COL_ENV_IDX)
         & off(nv, COL_CALL_SC_CNT)
         & off(nv, COL_TP)
         & off(nv, COL_CLK)
         & off(nv, COL_PC)
-        & zeros(nv, COL_REGS_START, REGISTER_NUM);
+        & all_off(nv, COL_REGS_START, REGISTER_NUM);
     // [f] TX_IDX, ENV_IDX, CALL_SC_CNT, CLK, PC, registers are 0.
     (!first | cleared)
         // [t] same → TX_IDX kept; not same → ENV_IDX', CALL_SC_CNT', TP', CLK', PC', registers' are 0.

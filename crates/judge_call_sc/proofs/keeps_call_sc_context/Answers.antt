@@ -11,15 +11,15 @@ returns c =
     sym (keeps _ _ _ _ _ ∙
     search (
       c.is-call_sc.ensures,
-      c.same-storage_held.ensures,
-      c.same-code_held.ensures,
+      c.all_carried-storage_held.ensures,
+      c.all_carried-code_held.ensures,
       c.kept.ensures,
       c.kept-2.ensures,
       c.carried.ensures,
       c.carried-2.ensures,
       c.off.ensures,
       c.off-2.ensures,
-      c.zeros.ensures,
+      c.all_off.ensures,
       c.off-3.ensures,
       c.is.ensures,
       c.off-4.ensures,

@@ -1,17 +1,11 @@
 -- `judge_columns::zeros` meets its contract.
-use Rattle.std.proofs.Common.{◌&&◌, ◌+◌, ◌%◌, [], true, rules, tests, arith, ◌∙◌, refl, get_or, eqb}
-use Rattle.std.proofs.lemmas.Iterator.{YieldsList-from_range}
+use Rattle.std.proofs.Common.{◌+◌, ◌-◌, ◌&&◌, true, take, drop, eqb, rules, tests, ◌∙◌}
 use Rattle.std.proofs.lemmas.Iterator.Consumers.{fold_from_yields_List}
-use Rattle.algebra.specs.Prime.{p}
-use Rattle.algebra.specs.Expr.{eval}
-use Rattle.table.specs.Cells.{cells}
-use Rattle.rulebook.specs.Rule.{holds}
-use Rattle.rulebook.specs.Words.{off}
-use Rattle.judge_columns.proofs.Runs.{every_run}
+use Rattle.std.proofs.lemmas.Iterator.{YieldsList-from_slice}
+use Rattle.judge_columns.proofs.Runs.{part_folded}
 use Rattle.judge_columns.proofs.zeros.Goals as goal
 
 pub returns : goal.returns
-unfolding holds eval
 returns c =
-    fold_from_yields_List _ (λ all j. all && eqb (get_or c.args.row.now j 0 % p) 0) true _ c.fold.ensures.ran (YieldsList-from_range c.args.start (c.args.start + c.args.n) c.args.n refl (omega arith)) (λ a x b q k. search (rules, tests))
-    ∙ every_run (cells [] c.args.row.now [] 0 0) off _ (λ i. refl) c.args.start c.args.n
+    fold_from_yields_List _ (λ all x. all && eqb x 0) true _ c.fold.ensures.ran (YieldsList-from_slice (take (c.args.start + c.args.n - c.args.start) (drop c.args.start c.args.row.now)) cc) (λ a x b q k. search (rules, tests))
+    ∙ part_folded (λ x. eqb x 0) c.args.row.now c.args.start c.args.n

@@ -17,7 +17,7 @@ returns c =
       c.off-next_main.ensures,
       c.grows-cnt_grows.ensures,
       c.kept.ensures,
-      c.same.ensures,
+      c.all_carried.ensures,
       c.kept-2.ensures,
       c.at.ensures,
       c.ext_length.ensures,

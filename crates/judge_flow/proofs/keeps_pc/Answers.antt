@@ -22,7 +22,7 @@ returns c =
       c.equal.ensures,
       c.is-3.ensures,
       c.at-2.ensures,
-      c.bit.ensures.rule,
+      c.is_bit.ensures.rule,
       goes_told,
       tells,
       rules,

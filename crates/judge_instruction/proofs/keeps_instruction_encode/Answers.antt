@@ -22,7 +22,7 @@ returns c =
       c.add-to_op1.ensures,
       c.word_part-3.ensures,
       c.add-word.ensures,
-      c.bit.ensures.rule,
+      c.is_bit.ensures.rule,
       c.at-2.ensures,
       c.equal.ensures,
       c.on.ensures,

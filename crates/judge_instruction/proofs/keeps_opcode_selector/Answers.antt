@@ -10,5 +10,5 @@ unfolding rules_F
 returns c =
     sym (keeps _ _ _ _ _ ∙
     search
-    (c.bits.ensures.rule, c.ones.ensures, c.has_opcode.ensures, tells, rules, chains, counts, exprs)
+    (c.all_bits.ensures.rule, rw c.words.ensures.value at c.ones.ensures, c.has_opcode.ensures, tells, rules, chains, counts, exprs)
     depth 100 fits 100000)

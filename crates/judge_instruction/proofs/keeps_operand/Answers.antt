@@ -7,11 +7,11 @@ use Rattle.judge_instruction.proofs.keeps_operand.Goals as goal
 pub returns-clause-next : goal.returns-clause-next
 returns-clause-next c =
     sym (keeps _ _ _ _ _ ∙
-    search (c.off-main.ensures, c.bits.ensures.rule, c.ones.ensures, c.chosen.ensures.next, tells, rules, chains, counts, exprs)
+    search (c.off-main.ensures, c.all_bits.ensures.rule, rw c.words.ensures.value at c.ones.ensures, c.chosen_equal.ensures.next, tells, rules, chains, counts, exprs)
     depth 100 fits 100000)
 
 pub returns-clause-current : goal.returns-clause-current
 returns-clause-current c = λ e.
     sym (keeps _ _ _ _ _ ∙
-    search (c.off-main.ensures, c.bits.ensures.rule, c.ones.ensures, c.chosen.ensures.current e, tells, rules, chains, counts, exprs)
+    search (c.off-main.ensures, c.all_bits.ensures.rule, rw c.words.ensures.value at c.ones.ensures, c.chosen_equal.ensures.current e, tells, rules, chains, counts, exprs)
     depth 100 fits 100000)

@@ -5,4 +5,4 @@ use Rattle.judge_plain.proofs.plain_flags.Goals as goal
 
 pub returns : goal.returns
 unfolding pair_plain plain_flags bits
-returns c = rw (c.bits.ensures.value, c.ones.ensures) (simp bools cc)
+returns c = rw (c.all_bits.ensures.value, rw c.words.ensures.value at c.ones.ensures) (simp bools cc)

@@ -1,25 +1,20 @@
 -- `judge_kinds::selected::kind` meets its contract.
-use Rattle.std.proofs.Common.{◌≡◌, ◌<◌, arith, sym, ◌∙◌}
+use Rattle.std.proofs.Common.{take, drop, rules, tests, eqb, ap, ◌∙◌}
+use Rattle.std.proofs.lemmas.Iterator.{YieldsList-from_slice, YieldsList-from_zip}
+use Rattle.std.proofs.lemmas.Iterator.Search.{find_from_yields_List}
+use Rattle.std.specs.Option.{option_map}
 use Rattle.rulebook.specs.Kind.{kind_of}
-use Rattle.judge_columns.proofs.Counts.{first_one_here, first_one_later, first_one_all}
 use Rattle.judge_kinds.specs.Kind.{number_of_kind}
-use Rattle.judge_kinds.proofs.Cases.{kind-at}
+use Rattle.judge_kinds.proofs.Cases.{all, mapped, kind_found}
 use Rattle.judge_kinds.proofs.selected.kind.Goals as goal
 
-pub loop-place-preserved : goal.loop-place-preserved
-loop-place-preserved c =
-    let h : c.loop-place.place < 19 = omega arith in
-    first_one_later _ 66 19 _ h _ (rw c.words-columns.ensures.value at c.if-columns-place-eq1.false) c.loop-place.invariant
-
-pub returns-then-columns-place-eq1 : goal.returns-then-columns-place-eq1
-unfolding kind_of number_of_kind
-returns-then-columns-place-eq1 c =
-    let h : c.loop-place.place < 19 = omega arith in
-    kind-at _ _ h
-    ∙ sym (first_one_here _ 66 19 _ h _ (rw c.words-columns.ensures.value at c.if-columns-place-eq1.true) c.loop-place.invariant)
-
 pub returns : goal.returns
-unfolding kind_of number_of_kind
+unfolding kind_of
 returns c =
-    let e : c.loop-place.place ≡ 19 = omega arith in
-    sym e ∙ first_one_all _ 66 19 _ c.loop-place.place (omega arith) c.loop-place.invariant
+    ap number_of_kind
+    (mapped (λ p. (p.0.now, p.1.now)) _ _ c.map.ensures.cases (λ x k h. search (rules, tests))
+    ∙ ap (option_map (λ e. e.0))
+    (find_from_yields_List (λ e. eqb e.1 1) c.find.new.self _ _ c.find.ensures.ran
+    (YieldsList-from_zip (YieldsList-from_slice all cc) (YieldsList-from_slice (take 19 (drop 66 c.args.lv.now)) cc))
+    (λ x b q k. search (rules, tests))))
+    ∙ kind_found c.args.lv.now c.words-columns.ensures.size
