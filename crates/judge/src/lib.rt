@@ -21,7 +21,7 @@ pub fn pair_judge(
     ensures { result ≡ verdict_of masks.now lv.now nv.now first last }
 {
     checks::sizes(masks, lv, nv)?;
-    let (masks, lv, nv) = checks::contents(masks, lv, nv)?;
+    let (masks, lv, nv) = checks::lent(masks, lv, nv)?;
     if !plain_flags(&lv, &nv) {
         return Err(Refusal::FlagsNotPlain);
     }
