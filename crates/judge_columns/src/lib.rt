@@ -91,6 +91,8 @@ pub fn chosen(row: &[u64], s: usize, regs: &[u64], o: usize) -> bool
 }
 
 // The words of the rulebook, of rows.
+// Kept: each asks that its columns are below 94. The Rust's columns are numbers, which are added to and index words, so
+// that a type of columns would be opened at each use.
 
 // Whether two residues are equal; the contract has the form of the rulebook's equations.
 pub fn equal(a: Residue, b: Residue) -> bool
