@@ -6,7 +6,7 @@
 ghost use Rattle.std.specs.Prelude.{◌≡◌, true, length};
 ghost use Rattle.replay.specs.Record.{Agrees};
 
-use compared_line::NoCase;
+use compared_line::{Broken, NoCase};
 use table::NUM_VALUES;
 use table::columns::NUM_CPU_COLS;
 use table::masks::NUM_MASKS;
@@ -46,9 +46,9 @@ fn agrees(words: &[u64]) -> bool
 // Reads a record and replays it.
 fn replay_record(rt: HostRuntime) -> Result<bool, NoCase> {
     let mut bytes = [0u8; RECORD_BYTES];
-    match compared_line::read_full(rt.stdin(), &mut bytes).bytes {
-        0 => Err(NoCase::End),
-        RECORD_BYTES => {
+    match compared_line::read_full(rt.stdin(), &mut bytes) {
+        Ok(0) | Err(Broken { after: 0 }) => Err(NoCase::End),
+        Ok(RECORD_BYTES) => {
             let mut record = [0u64; RECORD];
             words::decode(&bytes, &mut record);
             Ok(agrees(&record))
