@@ -59,7 +59,7 @@ pub struct Broken {
 
 // Reads until the bytes are full or the input ends, and says how many were read; or a read fails.
 // Kept: the count of bytes is the answer, so a walk over the slice that is left to fill would be no plainer.
-pub fn read_full(input: Stdin, bytes: &mut [u8]) -> Result<usize, Broken>
+pub fn fill(input: Stdin, bytes: &mut [u8]) -> Result<usize, Broken>
     ensures read { IfOk result (λ n. IsPrefixLen n bytes.new) }
     ensures broken { IfErr result (λ e. e.after < length bytes.new) }
 {
@@ -77,4 +77,13 @@ pub fn read_full(input: Stdin, bytes: &mut [u8]) -> Result<usize, Broken>
         }
     }
     Ok(n)
+}
+
+// Reads until the bytes are full, the input ends or a read fails: how many bytes are read.
+pub fn read_full(input: Stdin, bytes: &mut [u8]) -> usize
+    ensures { IsPrefixLen result bytes.new }
+{
+    match fill(input, bytes) {
+        Ok(n) | Err(Broken { after: n }) => n,
+    }
 }

@@ -6,7 +6,7 @@
 ghost use Rattle.std.specs.Prelude.{◌≡◌, true, length};
 ghost use Rattle.replay.specs.Record.{Agrees};
 
-use compared_line::{Broken, NoCase};
+use compared_line::NoCase;
 use table::NUM_VALUES;
 use table::columns::NUM_CPU_COLS;
 use table::masks::NUM_MASKS;
@@ -47,8 +47,8 @@ fn agrees(words: &[u64]) -> bool
 fn replay_record(rt: HostRuntime) -> Result<bool, NoCase> {
     let mut bytes = [0u8; RECORD_BYTES];
     match compared_line::read_full(rt.stdin(), &mut bytes) {
-        Ok(0) | Err(Broken { after: 0 }) => Err(NoCase::End),
-        Ok(RECORD_BYTES) => {
+        0 => Err(NoCase::End),
+        RECORD_BYTES => {
             let mut record = [0u64; RECORD];
             words::decode(&bytes, &mut record);
             Ok(agrees(&record))

@@ -6,7 +6,7 @@ ghost use Rattle.std.specs.Prelude.{◌≡◌, true, IfOk};
 ghost use Rattle.io.specs.Counts.{IsPrefixLen};
 ghost use Rattle.stream_model.specs.Model.{output_of};
 
-use compared_line::{Broken, NoCase};
+use compared_line::NoCase;
 use stream_model::{MASK_BYTES, ROW_BYTES};
 use stream_text::{PAIR_BYTES, PairText};
 use text::TextBuffer;
@@ -44,7 +44,7 @@ fn read_part(rt: HostRuntime, part: &mut [u8]) -> Result<usize, NoCase>
     ensures { IfOk result (λ n. IsPrefixLen n part.new) }
 {
     let mut size = [0u8; SIZE_BYTES];
-    let (Ok(got) | Err(Broken { after: got })) = compared_line::read_full(rt.stdin(), &mut size);
+    let got = compared_line::read_full(rt.stdin(), &mut size);
     if got == 0 {
         return Err(NoCase::End);
     }
@@ -53,10 +53,10 @@ fn read_part(rt: HostRuntime, part: &mut [u8]) -> Result<usize, NoCase>
         return Err(NoCase::Malformed);
     }
     let n = n as usize;
-    match compared_line::read_full(rt.stdin(), &mut part[..n]) {
-        Ok(read) if read == n => Ok(n),
-        _ => Err(NoCase::Malformed),
+    if compared_line::read_full(rt.stdin(), &mut part[..n]) != n {
+        return Err(NoCase::Malformed);
     }
+    Ok(n)
 }
 
 // Reads a case and replays it.

@@ -57,7 +57,7 @@ impl Program<'_> {
     fn read_full(self, bytes: &mut [u8]) -> Option<usize>
         ensures { IfSome result (λ n. IsPrefixLen n bytes.new) }
     {
-        match compared_line::read_full(self.rt.stdin(), bytes) {
+        match compared_line::fill(self.rt.stdin(), bytes) {
             Ok(n) => Some(n),
             Err(_) => {
                 self.failed(UNREADABLE);
