@@ -84,6 +84,6 @@ pub fn read_full(input: Stdin, bytes: &mut [u8]) -> usize
     ensures { IsPrefixLen result bytes.new }
 {
     match fill(input, bytes) {
-        Ok(n) | Err(Broken { after: n }) => n,
+        Ok(read) | Err(Broken { after: read }) => read,
     }
 }
