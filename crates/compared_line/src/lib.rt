@@ -32,6 +32,7 @@ pub fn compare<F: Fn() -> Result<bool, NoCase> + Drop>(
     requires { F.IsAlwaysCallable agrees }
 {
     let mut differ = 0;
+    // Kept: n counts the cases that were compared, for the line that is printed; it indexes nothing.
     for n in 0..MOST {
         match agrees() {
             Ok(true) => {}

@@ -1,25 +1,24 @@
--- Values that are yielded to a consumer, each to the call that a letter names.
-use Rattle.std.specs.Prelude.{cond, List, [], ◌∷◌, map, ℕ, eqb}
+-- Values that are yielded to a consumer, each to the call of its kind.
+use Rattle.std.specs.Prelude.{List, [], ◌∷◌, map, ℕ}
 use Rattle.table.specs.Entry.{Kind, plain, transition, first}
 use Rattle.table.specs.Table.{table}
+use Rattle.consumer.specs.declared.Kind.{Kind as Kind_of_code}
+use Rattle.consumer.specs.declared.Kind.TheVariants.{Plain, Transition, FirstRow}
+use Rattle.consumer.specs.Consumer.{kind_of}
 use Rattle.consumer.specs.Yielded.{Yielded}
 
--- t (116) is `constraint_transition`, f (102) `constraint_first_row`, and any other letter `constraint`
-abbrev pub kind_of : ℕ → Kind
-kind_of letter = cond (eqb letter 116) transition (cond (eqb letter 102) first plain)
+-- the code's name of a kind
+abbrev pub named : Kind → Kind_of_code
+named plain = Plain
+named transition = Transition
+named first = FirstRow
 
--- and p (112) is the letter of `constraint`
-abbrev pub letter_of : Kind → ℕ
-letter_of plain = 112
-letter_of transition = 116
-letter_of first = 102
+-- the kinds of the table's entries, in order
+unfoldable pub kinds : List Kind_of_code
+kinds = map (λ e. named e.kind) table
 
--- the letters of the table's entries, in order
-unfoldable pub letters : List ℕ
-letters = map (λ e. letter_of e.kind) table
-
--- each value to the call of its letter
-unfoldable pub yielded_by : List ℕ → List ℕ → List Yielded
+-- each value to the call of its kind
+unfoldable pub yielded_by : List Kind_of_code → List ℕ → List Yielded
 yielded_by [] vs = []
 yielded_by (k ∷ ks) [] = []
 yielded_by (k ∷ ks) (v ∷ vs) = record { kind = kind_of k; value = v } ∷ yielded_by ks vs

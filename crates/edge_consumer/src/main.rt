@@ -2,57 +2,48 @@
 // that pair. What each makes of an accumulator is printed, and the two are proved equal from the contracts.
 #![tactic(auto)]
 
-ghost use Rattle.std.specs.Prelude.{◌≡◌, length};
-ghost use Rattle.consumer.specs.Consumer.{taken};
+ghost use Rattle.std.specs.Prelude.{◌≡◌};
+ghost use Rattle.consumer.specs.Consumer.{kind_of, taken};
 ghost use Rattle.consumer.specs.Yielded.{taken_all};
 ghost use Rattle.pair_fold_checks.specs.PairFold.{pair_fold_refusal, pair_fold_accumulators};
-ghost use Rattle.edge_consumer.specs.Calls.{kind_of, letters, yielded_by};
+ghost use Rattle.edge_consumer.specs.Calls.{kinds, yielded_by};
 
 use algebra::P;
-use consumer::ConstraintConsumer;
+use consumer::{ConstraintConsumer, Kind};
 use edge_residues::lines;
+use kinds::KINDS;
 use refusals::Refusal;
 use table::NUM_VALUES;
 use table::columns::NUM_CPU_COLS;
 use table::masks::NUM_MASKS;
 
-// A value to the call of a letter. A call that is turned back leaves the consumer as it was.
-fn push(consumer: &mut ConstraintConsumer, letter: u8, value: u64)
-    ensures { consumer.new ≡ (taken (kind_of letter) consumer.old value).consumer }
+mod kinds;
+
+// A value to the call of its kind. A call that is turned back leaves the consumer as it was.
+fn push(consumer: &mut ConstraintConsumer, kind: Kind, value: u64)
+    ensures { consumer.new ≡ (taken (kind_of kind) consumer.old value).consumer }
 {
-    let _ = match letter {
-        b't' => consumer.constraint_transition(value),
-        b'f' => consumer.constraint_first_row(value),
-        _ => consumer.constraint(value),
+    let _ = match kind {
+        Kind::Plain => consumer.constraint(value),
+        Kind::Transition => consumer.constraint_transition(value),
+        Kind::FirstRow => consumer.constraint_first_row(value),
     };
 }
 
-// Values one after the other, each to the call of its letter.
-fn push_all(consumer: &mut ConstraintConsumer, letters: &[u8], values: &[u64])
-    requires { length letters.now ≡ length values.now }
-    ensures { consumer.new ≡ taken_all consumer.old (yielded_by letters.now values.now) }
+// Values one after the other, each to the call of its kind.
+fn push_all(consumer: &mut ConstraintConsumer, kinds: &[Kind], values: &[u64])
+    ensures { consumer.new ≡ taken_all consumer.old (yielded_by kinds.now values.now) }
 {
-    for (i, value) in values.iter().enumerate() {
-        push(consumer, letters[i], *value);
+    for (kind, value) in kinds.iter().zip(values) {
+        push(consumer, *kind, *value);
     }
 }
 
-// The values of the table one after the other, each to the call of its kind: a line for each of A, B, C, D, E,
-// F to J, K, L and M, N.
+// The values of the table one after the other, each to the call of its kind.
 fn push_table(consumer: &mut ConstraintConsumer, values: &[u64])
-    requires { length values.now ≡ 226 }
-    ensures { consumer.new ≡ taken_all consumer.old (yielded_by letters values.now) }
+    ensures { consumer.new ≡ taken_all consumer.old (yielded_by kinds values.now) }
 {
-    let letters = b"ptppptp\
-        ffffffffffffffftttttttttttttttt\
-        ttttttttttpp\
-        ppppppppppppppppppppppppp\
-        ttppppp\
-        ppppppppppppppppppppppppppppppppppppppppppppppppppppppppppppppppppp\
-        tttttttttt\
-        ppppppppppppppppppppppppp\
-        ppppppppppttpppppppppppppppppppppppppppppp";
-    push_all(consumer, letters, values);
+    push_all(consumer, &KINDS, values);
 }
 
 // What a consumer leaves of the accumulators that takes the constraints of a pair of rows: with both weights 1

@@ -11,8 +11,8 @@ use algebra::P;
 use field_signed::GREATEST;
 use refusals::Refusal;
 
-// The maps, each with its line printed: "signed residue = value", "unsigned value = residue", or "refused number" behind
-// what was asked.
+// The maps, each with its line printed: "signed residue = value", "unsigned value = residue", or "refused number"
+// behind what was asked.
 fn signed(rt: HostRuntime, residue: u64) -> Result<i64, Refusal>
     ensures { result ≡ to_signed residue }
 {

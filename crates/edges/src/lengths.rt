@@ -20,6 +20,7 @@ fn ask(rt: HostRuntime, words: &str, row: &[u64; NUM_CPU_COLS]) -> Result<u64, R
 }
 
 // The rows of a TLOAD, and of an END.
+// Kept: they set other columns, and a function of the columns to set is no shorter and hides their names.
 fn tload(op0: u64, op1: u64) -> [u64; NUM_CPU_COLS]
     ensures { result ≡ tload_row op0 op1 }
 {
@@ -39,7 +40,8 @@ fn end(entry: u64) -> [u64; NUM_CPU_COLS]
     row
 }
 
-// "TLOAD lengths: OP0 1, OP1 7 give 7; 0, 7 give 1; 2, 3 give 5. END length: entry 1 gives 0, entry 0 gives 1."   (document 01)
+// "TLOAD lengths: OP0 1, OP1 7 give 7; 0, 7 give 1; 2, 3 give 5. END length: entry 1 gives 0, entry 0 gives 1."
+// (document 01)
 #[tactic(auto, unfolding(row_values::specs::RowValue::row_value, refusals::specs::Refusal::canonical, algebra::specs::Expr::eval, residue::specs::Residues::add_p, residue::specs::Residues::neg_p, residue::specs::Residues::mul_p, table::specs::CpuStark::lv_ext_length))]
 pub fn worked(rt: HostRuntime) {
     check::expect(ask(rt, "TLOAD, OP0 1, OP1 7", &tload(1, 7)) == Ok(7));

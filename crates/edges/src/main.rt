@@ -1,6 +1,7 @@
-// Document 01's worked pairs and edges, run through the public entries. Each answer is printed on a line, and each is proved from its
-// entry's contract to be the one that stands behind `==` or in the expected text. "65,536 rows" run through the steps of
-// rowdesk, in the program edge_streams: a run report of so many rows takes 49 MB, which no array here has, and is run by the harness.
+// Document 01's worked pairs and edges, run through the public entries. Each answer is printed on a line, and each is
+// proved from its entry's contract to be the one that stands behind `==` or in the expected text. "65,536 rows" run
+// through the steps of rowdesk, in the program edge_streams: a run report of so many rows takes 49 MB, which no array
+// here has, and is run by the harness.
 #![tactic(auto)]
 
 use edge_residues::residues;

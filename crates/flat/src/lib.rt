@@ -93,7 +93,8 @@ impl From<Result<Verdict, Refusal>> for FelmugoVerdict {
     }
 }
 
-// The report of a run: found 1 where there is a failing spot, its pair and its value's number; or the number of the refusal with zeros.
+// The report of a run: found 1 where there is a failing spot, its pair and its value's number; or the number of the
+// refusal with zeros.
 #[repr(C)]
 #[derive(Clone, Copy)]
 pub struct FelmugoReport {

@@ -1,5 +1,5 @@
 // The rules of CALL_SC and END: N of the rulebook.
-#![tactic(auto)]
+#![tactic(auto, using(judge_columns::proofs::Rules::bools), unfolding(algebra::specs::Expr::eval, rulebook::specs::Rule::holds, rulebook::specs::Rule::keeps_sentence, rulebook::specs::Rule::keeps_all, rulebook::specs::Rulebook::rules_N))]
 
 ghost use Rattle.std.specs.Prelude.{◌≡◌, false, [], take, drop};
 ghost use Rattle.rulebook.specs.Rulebook.{rules_N};

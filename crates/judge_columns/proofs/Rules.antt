@@ -3,7 +3,6 @@ use mathlib.Core.Path.{◌≡◌, refl, sym, ap, ap₂, ◌∙◌}
 use mathlib.Core.Bool.{Bool, false, not, ◌&&◌, ◌||◌, and-true, and_assoc, or-false, or_assoc, not-not}
 use mathlib.Core.List.{List, [], ◌∷◌, ◌++◌}
 use Prim.Native.Nat.{ℕ, ◌%◌}
-use lib.ListN.{take, drop, take-append-drop}
 use lib.Dec.{eqb, leb}
 use Rattle.algebra.specs.Prime.{p}
 use Rattle.algebra.specs.Expr.{Expr, var, con, ◌⊕◌, ◌⊖◌, ◌⊗◌, eval}
@@ -140,7 +139,7 @@ module _ (x : Cell → ℕ) where
     unfolding keeps_all
     keeps s ss = keeps-left (keeps_sentence x first last s) ss
 
-    -- sentences one after the other, and the first n and the others
+    -- sentences one after the other
     pub keeps-append : (ss ts : List Sentence) → keeps_all x first last (ss ++ ts) ≡ (keeps_all x first last ss && keeps_all x first last ts)
     unfolding keeps_all
     keeps-append [] ts = refl
@@ -159,9 +158,6 @@ module _ (x : Cell → ℕ) where
     pub keeps_joined : (ss : List Sentence) (ts : List (List Sentence)) → keeps_all x first last (joined ss ts) ≡ left_and (keeps_all x first last ss) (kept-each ts)
     keeps_joined ss [] = refl
     keeps_joined ss (ts ∷ us) = keeps_joined (ss ++ ts) us ∙ ap (λ (b : Bool). left_and b (kept-each us)) (keeps-append ss ts)
-
-    pub keeps_split : (n : ℕ) (ss : List Sentence) → keeps_all x first last ss ≡ (keeps_all x first last (take n ss) && keeps_all x first last (drop n ss))
-    keeps_split n ss = ap (keeps_all x first last) (sym (take-append-drop n ss)) ∙ keeps-append (take n ss) (drop n ss)
 
 pub both : {a b c d : Bool} → a ≡ c → b ≡ d → (a && b) ≡ (c && d)
 both e f = ap₂ ◌&&◌ e f

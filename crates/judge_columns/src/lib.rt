@@ -51,7 +51,7 @@ pub fn bits(row: &[u64], start: usize, n: usize) -> bool
 }
 
 // How many of the n words from `start` on are 1.
-// A sum, since `filter` and `count` compile to a branch for each word, with which the judge takes 392 ns a pair for 350.
+// A sum: `filter` and `count` compile to a branch for each word, which took 392 ns a pair where a loop took 350.
 pub fn ones(row: &[u64], start: usize, n: usize) -> usize
     requires { start + n ≤ length row.now }
     ensures { result ≡ ones_of (λ c. get_or row.now c 0) start n }
@@ -91,6 +91,8 @@ pub fn chosen(row: &[u64], s: usize, regs: &[u64], o: usize) -> bool
 }
 
 // The words of the rulebook, of rows.
+// Kept: each asks that its columns are below 94. The Rust's columns are numbers, which are added to and index words, so
+// that a type of columns would be opened at each use.
 
 // Whether two residues are equal; the contract has the form of the rulebook's equations.
 pub fn equal(a: Residue, b: Residue) -> bool
@@ -196,6 +198,7 @@ pub fn chosen_equal<'a>(row: &Row<'a>, s: usize, regs: &Row<'a>, o: usize) -> bo
 }
 
 // Registers 0 to 8 are kept where their selector as dst is not 1.
+// Kept: over places, since selectors beside the registers of both rows would be two `zip` of three slices, no plainer.
 pub fn kept_unless_dst(lv: &Row, nv: &Row) -> bool
     ensures { result ≡ holds (cells [] lv.now nv.now 0 0) (every (range 0 9) (λ i. deny (on (COL-S-DST-START + i)) ⇒ kept (COL-REGS-START + i))) }
 {

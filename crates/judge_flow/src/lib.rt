@@ -1,5 +1,5 @@
 // The rules of what flows from a row to the next: I to K of the rulebook.
-#![tactic(auto)]
+#![tactic(auto, unfolding(algebra::specs::Expr::eval, rulebook::specs::Rule::holds, rulebook::specs::Rule::keeps_sentence, rulebook::specs::Rule::keeps_all, rulebook::specs::Rulebook::rules_I, rulebook::specs::Rulebook::rules_J, rulebook::specs::Rulebook::rules_K))]
 
 ghost use Rattle.std.specs.Prelude.{◌≡◌, false, []};
 ghost use Rattle.rulebook.specs.Rulebook.{rules_I, rules_J, rules_K};

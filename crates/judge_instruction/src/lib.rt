@@ -1,5 +1,5 @@
 // The rules of the instruction: F to H of the rulebook.
-#![tactic(auto)]
+#![tactic(auto, using(judge_columns::proofs::Rules::bools), unfolding(algebra::specs::Expr::eval, rulebook::specs::Rule::holds, rulebook::specs::Rule::keeps_sentence, rulebook::specs::Rule::keeps_all, rulebook::specs::Rulebook::rules_F, rulebook::specs::Rulebook::rules_G, rulebook::specs::Rulebook::rules_H))]
 
 ghost use Rattle.std.specs.Prelude.{◌≡◌, false, [], ◌+◌, ◌<◌, ◌≤◌};
 ghost use Rattle.algebra.specs.Expr.{eval};

@@ -8,6 +8,7 @@ use super::kinds::Kind;
 use table::Row;
 
 // The current row, the next row, and the kind of the current row's instruction.
+// Kept: what reads the current row alone takes it and its kind; a step would ask a next row of its callers.
 #[derive(Clone, Copy)]
 pub struct Step<'a> {
     pub lv: &'a Row<'a>,

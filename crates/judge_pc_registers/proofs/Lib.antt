@@ -1,2 +1,1 @@
 pub mod Unread
-pub mod Told

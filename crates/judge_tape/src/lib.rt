@@ -1,5 +1,5 @@
 // The rules of the tape: M of the rulebook.
-#![tactic(auto)]
+#![tactic(auto, using(judge_columns::proofs::Rules::bools), unfolding(algebra::specs::Expr::eval, rulebook::specs::Rule::holds, rulebook::specs::Rule::keeps_sentence, rulebook::specs::Rule::keeps_all, rulebook::specs::Rulebook::rules_M))]
 
 ghost use Rattle.std.specs.Prelude.{◌≡◌, false, [], take, drop};
 ghost use Rattle.rulebook.specs.Rulebook.{rules_M};

@@ -1,5 +1,5 @@
 // The rules of a transaction: A to C of the rulebook.
-#![tactic(auto)]
+#![tactic(auto, using(judge_columns::proofs::Rules::bools), unfolding(algebra::specs::Expr::eval, rulebook::specs::Rule::holds, rulebook::specs::Rule::keeps_sentence, rulebook::specs::Rule::keeps_all, rulebook::specs::Rulebook::rules_B, rulebook::specs::Rulebook::rules_C))]
 
 ghost use Rattle.std.specs.Prelude.{◌≡◌, false, []};
 ghost use Rattle.rulebook.specs.Rulebook.{rules_A, rules_B, rules_C};

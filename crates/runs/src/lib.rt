@@ -18,6 +18,7 @@ fn walk(run: Run) -> Report
     let rows = run.rows();
     let mut failing: u64 = 0;
     let mut spot = Spot::Clean;
+    // Kept: the spot names the pair by i, and a `fold` over `0..rows` would carry count and spot in a tuple.
     for i in 0..rows {
         let tally = pair_tally(&run.pair(i));
         if tally.count != 0 {

@@ -5,10 +5,10 @@ ghost use Rattle.std.specs.Prelude.{◌≡◌};
 ghost use Rattle.tally.specs.Tally.{tally_of};
 
 // How many values are not 0, and the number of the first, counted from 1; 0 where there is none.
-// Kept: what is reported of a pair, by C too, is "lowest such number or 0" (document 01), so no Option.
 #[derive(Clone, Copy)]
 pub struct Tally {
     pub count: u64,
+    // Kept: rowdesk prints it as it is, as "lowest such number or 0" (document 01), so it is no Option.
     pub lowest: u64,
 }
 
