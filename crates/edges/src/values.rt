@@ -96,8 +96,8 @@ pub fn worked(rt: HostRuntime) {
     zero_row(rt);
 }
 
-// Why a pair is turned back, if it is, printed behind the words: zero rows with other last columns, masks with another last
-// one, the weights, and the room of the buffer.
+// Why a pair is turned back, if it is, printed behind the words: zero rows with other last columns, masks with
+// another last one, the weights, and the room of the buffer.
 fn ask(
     rt: HostRuntime,
     words: &str,
