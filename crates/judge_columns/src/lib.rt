@@ -22,6 +22,7 @@ use table::columns::*;
 pub const FP: usize = REGISTER_NUM - 1;
 
 // The tests of words, which may be any. They ask each word, with no branch, so that they are vectorised.
+// Kept: each is one expression of its own; one function over a test of a word would be the library's `fold` again.
 
 // Whether a word is 0 or 1.
 pub fn bit(x: u64) -> bool

@@ -18,6 +18,7 @@ pub fn decode(bytes: &[u8], out: &mut [u64])
     requires { length bytes.now ≡ 8 * length out.old }
     ensures { out.new ≡ words (length out.old) bytes.now }
 {
+    // Kept: nothing is known after a loop over `out.iter_mut().zip(bytes.chunks_exact(8))`, so i is the place.
     for (i, value) in out.iter_mut().enumerate() {
         *value = word(&bytes[8 * i..]);
     }
