@@ -1,4 +1,5 @@
 -- `judge_environment::keeps_ext_lines` meets its contract.
+-- Kept: with the attribute that opens the rules, with `bools` and without, the search ends at one of its limits.
 use mathlib.Core.Path.{sym, ◌∙◌}
 use Rattle.rulebook.specs.Rulebook.{rules_D}
 use Rattle.judge_columns.proofs.Rules.{keeps, rules, chains, exprs}

@@ -1,4 +1,5 @@
 -- `judge_instruction::keeps_operand` meets its contract.
+-- Kept: with the attribute that opens the rules, and `bools`, the check proves neither clause.
 use mathlib.Core.Path.{sym, ◌∙◌}
 use Rattle.judge_columns.proofs.Rules.{keeps, rules, chains, counts, exprs}
 use Rattle.judge_columns.proofs.Told.{tells}

@@ -1,4 +1,5 @@
 -- `judge_rules::keeps` meets its contract.
+-- Kept: it joins the contracts of the groups, whose names are what a reader looks for here.
 use mathlib.Core.Path.{sym, ◌∙◌}
 use Rattle.judge_columns.proofs.Rules.{both}
 use Rattle.judge_rules.proofs.Groups.{groups}
