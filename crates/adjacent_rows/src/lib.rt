@@ -52,6 +52,7 @@ impl<'a, 'b> CpuAdjacentRowWrapper<'a, 'b> {
 }
 
 // Plain parameters, for callers that keep no record: it is made and opened inside.
+// Kept: the exported function goes through the record, as document 01 has it, and so not straight to `pair_values`.
 pub fn adjacent_values(
     masks: &[u64],
     lv: &[u64],

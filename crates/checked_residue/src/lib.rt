@@ -19,7 +19,7 @@ fn operands(a: u64, b: u64) -> Result<(Residue, Residue), Refusal>
 }
 
 // Sum, difference and product.
-// Kept: C has a name for each (felmugo_add, felmugo_sub, felmugo_mul), and they share all but the operator.
+// Kept: ffi and edge_residues take each by its name, and the three share all but the operator.
 pub fn add(a: u64, b: u64) -> Result<u64, Refusal>
     ensures { result ≡ checked add_p a b }
 {

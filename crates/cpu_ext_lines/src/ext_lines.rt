@@ -51,6 +51,7 @@ pub fn ext_lines_selectors(lv: &Row, nv: &Row) -> [Residue; NUM_OP_SELECTOR]
     })
 }
 
+// Kept: one expression, as `ext_lines_opcode` is, each with its own part of the table.
 pub fn ext_lines_op1_imm(lv: &Row, nv: &Row) -> [Residue; 1]
     ensures { result ≡ values residues (cells [] lv.now nv.now 0 0) ext_lines_op1_imm }
 {

@@ -38,7 +38,8 @@ pub fn instruction_size(lv: &Row) -> Residue
     let one = Residue::ONE;
     let s_mload = lv.at(COL_S_MLOAD);
     let s_mstore = lv.at(COL_S_MSTORE);
-    Sum::product(one - s_mload - s_mstore, one + lv.at(COL_OP1_IMM))
+    let is_other = one - s_mload - s_mstore;
+    Sum::product(is_other.value(), (one + lv.at(COL_OP1_IMM)).value())
         .plus(s_mload + s_mstore, Residue::new(2))
         .reduced()
 }
@@ -56,8 +57,11 @@ pub fn pc_next(lv: &Row) -> Residue
     let op0 = lv.at(COL_OP0);
     let op1 = lv.at(COL_OP1);
     let pc_behind = lv.at(COL_PC) + instruction_size(lv);
-    let cjmp_target = Sum::product(one - op0, pc_behind).plus(op0, op1).reduced();
-    Sum::product(one - (s_jmp + s_cjmp + s_call + s_ret), pc_behind)
+    let cjmp_target = Sum::product((one - op0).value(), pc_behind.value())
+        .plus(op0, op1)
+        .reduced();
+    let goes_on = one - (s_jmp + s_cjmp + s_call + s_ret);
+    Sum::product(goes_on.value(), pc_behind.value())
         .plus(s_jmp, op1)
         .plus(s_cjmp, cjmp_target)
         .plus(s_call, op1)

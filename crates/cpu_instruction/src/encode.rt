@@ -48,7 +48,8 @@ pub fn instruction(lv: &Row) -> Residue
     ensures { result ≡ eval residues (cells [] lv.now [] 0 0) instruction }
 {
     // From the high bits down, the order of each group is r9, r8, .. r0.
-    let op1_imm = Sum::product(lv.at(COL_OP1_IMM), pow2(CpuStark::OP1_IMM_SHIFT));
+    let op1_imm_place = pow2(CpuStark::OP1_IMM_SHIFT);
+    let op1_imm = Sum::product(lv.at(COL_OP1_IMM).value(), op1_imm_place.value());
     let with_op0 = op1_imm.plus(
         number_of_selectors(lv, COL_S_OP0_START),
         pow2(CpuStark::OP0_SHIFT_START - LAST),

@@ -16,6 +16,7 @@ use table::Row;
 use table::columns::*;
 
 // The ten selectors from column `start` on should be binary. (only used as selector in main line)
+// Kept: a column is asked for as a number, here and below; judge_columns says why.
 pub fn selectors_binary(lv: &Row, start: usize) -> [Residue; REGISTER_NUM]
     requires columns { start + REGISTER-NUM ≤ NUM-CPU-COLS }
     ensures { result ≡ values residues (cells [] lv.now [] 0 0) (selectors_binary start) }

@@ -119,6 +119,7 @@ pub fn on(row: &Row, column: usize) -> bool
 }
 
 // Whether a column is 0.
+// Kept: the rulebook says `on` and `off`, and each is one expression.
 pub fn off(row: &Row, column: usize) -> bool
     requires { column < NUM-CPU-COLS }
     ensures { result ≡ holds (cells [] row.now [] 0 0) (off column) }

@@ -21,6 +21,7 @@ pub fn put_residues(out: &mut [u64], values: &[Residue])
 }
 
 // The ten words from the place `from` on, each times f.
+// Kept: a place in place of a slice, by which the check finds the columns of the callers' rows.
 #[tactic(auto, unfolding(crate::specs::Parts::up_to))]
 pub fn scaled(f: u64, words: &[u64], from: usize) -> [Residue; 10]
     requires { from + 10 ≤ length words.now }

@@ -1,5 +1,6 @@
 -- "Where a call is turned back" (document 01): one definition for each line of the table.
-use Rattle.std.specs.Prelude.{Bool, true, false, cond, not, ◌&&◌, ◌||◌, List, [], ◌∷◌, ℕ, zero, suc, ◌-◌, ◌/◌, ◌%◌, length, get_or, take, ℤ, nat_abs, eqb, ltb, Result, Ok, Err}
+use Rattle.std.specs.Prelude.{Bool, true, false, cond, not, ◌&&◌, ◌||◌, List, [], ◌∷◌, ◌++◌, ℕ, codes, zero, suc, ◌-◌, ◌/◌, ◌%◌, length, get_or, take, ℤ, nat_abs, eqb, ltb, Result, Ok, Err}
+use Rattle.std.specs.Fmt.{decimal}
 use Rattle.algebra.specs.Prime.{p}
 use Rattle.refusals.specs.declared.Refusal.{Refusal}
 use Rattle.refusals.specs.declared.Refusal.TheVariants.{RowLength, MaskCount, ValueBuffer, AlphaCount, MaskContents, RowContents, NotBelowP, FlagsNotPlain}
@@ -97,6 +98,10 @@ number MaskContents = 5
 number RowContents = 6
 number NotBelowP = 7
 number FlagsNotPlain = 8
+
+-- what a line prints
+abbrev pub text : Refusal → List ℕ
+text r = codes "refused " ++ decimal (number r)
 
 -- the lines in the order of their numbers, which begin with 1, and the line of a number
 abbrev pub lines : List Refusal

@@ -31,6 +31,7 @@ pub fn is_ext_inst(row: &[u64]) -> Result<u64, Refusal>
 }
 
 // How many ext lines the row's instruction has.
+// Kept: the Rust's two computed fields, each a call of its own, with its own expression.
 #[tactic(auto, unfolding(crate::specs::RowValue::row_value))]
 pub fn ext_length(row: &[u64]) -> Result<u64, Refusal>
     ensures { result ≡ row_value lv_ext_length row.now }

@@ -1,4 +1,5 @@
 // The places of the 25 masks that stand in for `OlaOpcode::binary_bit_mask`, in the order of document 01.
+// Kept: the masks are lent as a list, so that a name is a place in it, as a column is.
 pub const ADD: usize = 0;
 
 pub const MUL: usize = 1;
