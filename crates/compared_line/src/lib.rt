@@ -2,6 +2,7 @@
 // a buffer is full.
 #![tactic(auto)]
 
+ghost use Rattle.std.specs.Prelude.{◌<◌, length, IfOk, IfErr};
 ghost use Rattle.io.specs.Counts.{IsPrefixLen};
 
 use std::io::{Read, Stdin, Stdout, Write};
@@ -50,21 +51,20 @@ pub fn compare<F: Fn() -> Result<bool, NoCase> + Drop>(
     print(out, MOST, things, differ, ", and more follow");
 }
 
-// How many bytes were read, and whether that ended with a read that failed.
+// A read that failed, after this many bytes were read.
 #[derive(Clone, Copy)]
-pub struct Filled {
-    pub bytes: usize,
-    pub failed: bool,
+pub struct Broken {
+    pub after: usize,
 }
 
-// Reads until the bytes are full, the input ends or a read fails.
+// Reads until the bytes are full or the input ends, and says how many were read; or a read fails.
 // Kept: the count of bytes is the answer, so a walk over the slice that is left to fill would be no plainer.
-pub fn read_full(input: Stdin, bytes: &mut [u8]) -> Filled
-    ensures { IsPrefixLen result.bytes bytes.new }
+pub fn fill(input: Stdin, bytes: &mut [u8]) -> Result<usize, Broken>
+    ensures read { IfOk result (λ n. IsPrefixLen n bytes.new) }
+    ensures broken { IfErr result (λ e. e.after < length bytes.new) }
 {
     let mut from = input;
     let mut n = 0;
-    let mut failed = false;
     while n < bytes.len() {
         match from.read(&mut bytes[n..]) {
             Ok(0) => break,
@@ -72,10 +72,18 @@ pub fn read_full(input: Stdin, bytes: &mut [u8]) -> Filled
                 n += got;
             }
             Err(_) => {
-                failed = true;
-                break;
+                return Err(Broken { after: n });
             }
         }
     }
-    Filled { bytes: n, failed }
+    Ok(n)
+}
+
+// Reads until the bytes are full, the input ends or a read fails: how many bytes are read.
+pub fn read_full(input: Stdin, bytes: &mut [u8]) -> usize
+    ensures { IsPrefixLen result bytes.new }
+{
+    match fill(input, bytes) {
+        Ok(n) | Err(Broken { after: n }) => n,
+    }
 }

@@ -13,6 +13,7 @@ use refusals::Refusal;
 
 // The maps, each with its line printed: "signed residue = value", "unsigned value = residue", or "refused number"
 // behind what was asked.
+// Kept: one function over both was tried; it isn't known of its print of generic values that it borrows rightly.
 fn signed(rt: HostRuntime, residue: u64) -> Result<i64, Refusal>
     ensures { result ≡ to_signed residue }
 {

@@ -46,7 +46,7 @@ fn agrees(words: &[u64]) -> bool
 // Reads a record and replays it.
 fn replay_record(rt: HostRuntime) -> Result<bool, NoCase> {
     let mut bytes = [0u8; RECORD_BYTES];
-    match compared_line::read_full(rt.stdin(), &mut bytes).bytes {
+    match compared_line::read_full(rt.stdin(), &mut bytes) {
         0 => Err(NoCase::End),
         RECORD_BYTES => {
             let mut record = [0u64; RECORD];

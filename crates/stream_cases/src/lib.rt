@@ -44,7 +44,7 @@ fn read_part(rt: HostRuntime, part: &mut [u8]) -> Result<usize, NoCase>
     ensures { IfOk result (λ n. IsPrefixLen n part.new) }
 {
     let mut size = [0u8; SIZE_BYTES];
-    let got = compared_line::read_full(rt.stdin(), &mut size).bytes;
+    let got = compared_line::read_full(rt.stdin(), &mut size);
     if got == 0 {
         return Err(NoCase::End);
     }
@@ -53,7 +53,7 @@ fn read_part(rt: HostRuntime, part: &mut [u8]) -> Result<usize, NoCase>
         return Err(NoCase::Malformed);
     }
     let n = n as usize;
-    if compared_line::read_full(rt.stdin(), &mut part[..n]).bytes != n {
+    if compared_line::read_full(rt.stdin(), &mut part[..n]) != n {
         return Err(NoCase::Malformed);
     }
     Ok(n)

@@ -13,6 +13,7 @@ use field_signed::GREATEST;
 use stream_text::PairText;
 use text::TextBuffer;
 
+// Kept: `write!` is known to write the text where it answers Ok, but no clause says that it does where there is room.
 const SPACE: u8 = 32;
 
 const LINE_END: u8 = 10;
@@ -26,6 +27,7 @@ pub struct Counts {}
 pub struct Faults {}
 
 // Two numbers with a space behind each, with which a line begins.
+// Kept: each text uses up the room that it asks for, so no invariant of the buffer says that there is room.
 fn two_numbers<const N: usize>(a: u64, b: u64, out: &mut TextBuffer<N>)
     requires { length out.old + length (decimal_of a) + 22 ≤ N }
     ensures numbers { out.new ≡ out.old ++ decimal_of a ++ space ++ decimal_of b ++ space }

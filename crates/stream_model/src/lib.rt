@@ -18,6 +18,7 @@ pub struct State {
     pub first: [u64; NUM_CPU_COLS],
     pub previous: [u64; NUM_CPU_COLS],
     pub rows: usize,
+    // Kept: the definitions of specs/ have this field.
     pub running: bool,
 }
 

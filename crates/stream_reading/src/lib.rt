@@ -57,12 +57,13 @@ impl Program<'_> {
     fn read_full(self, bytes: &mut [u8]) -> Option<usize>
         ensures { IfSome result (λ n. IsPrefixLen n bytes.new) }
     {
-        let filled = compared_line::read_full(self.rt.stdin(), bytes);
-        if filled.failed {
-            self.failed(UNREADABLE);
-            return None;
+        match compared_line::fill(self.rt.stdin(), bytes) {
+            Ok(n) => Some(n),
+            Err(_) => {
+                self.failed(UNREADABLE);
+                None
+            }
         }
-        Some(filled.bytes)
     }
 
     // Prints the text. A failed write ends the program.

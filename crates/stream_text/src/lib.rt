@@ -13,6 +13,7 @@ use text::TextBuffer;
 pub const PAIR_BYTES: usize = 226 * 31;
 
 // Of a pair's index and values, put behind what the buffer holds.
+// Kept: each text uses up the room that it asks for, so no invariant of the buffer says that there is room.
 pub trait PairText<const N: usize> {
     ghost text: { ℕ → List ℕ → List ℕ };
 

@@ -7,7 +7,7 @@ ghost use Rattle.text.specs.Decimal.{decimal_of};
 use std::marker::Model;
 
 // Text of at most N bytes. A contract sees the list of its bytes.
-// Kept: nothing is allocated, so the text is an array with its length beside it, and no `String`.
+// Kept: nothing is allocated, so no `String`; an `ArrayVec` proves, but leaves no way to write the edit bytes_behind.
 #[derive(Drop)]
 pub struct TextBuffer<const N: usize> {
     bytes: [u8; N],

@@ -1,5 +1,5 @@
 -- `judge_rules::keeps` meets its contract.
--- Kept: it joins the contracts of the groups, whose names are what a reader looks for here.
+-- Kept: with an attribute that names `groups`, `rulebook_joins` and `both` in place of the list the check finds no proof.
 use mathlib.Core.Path.{sym, ◌∙◌}
 use Rattle.judge_columns.proofs.Rules.{both}
 use Rattle.judge_rules.proofs.Groups.{groups}
