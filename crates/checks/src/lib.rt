@@ -1,8 +1,8 @@
 // Whether a condition of the refusal table holds, of masks and rows that a caller lent.
 #![tactic(auto)]
 
-ghost use Rattle.std.specs.Prelude.{◌≡◌, [], ◌∷◌, length, IfOk};
-ghost use Rattle.refusals.specs.Refusal.{lowest, number_of, sizes as size_conditions, contents as content_conditions, mask_contents, row_contents, not_below_p, canonical as is_canonical, distinct as are_distinct};
+ghost use Rattle.std.specs.Prelude.{◌≡◌, true, [], ◌∷◌, ◌++◌, ◌+◌, ◌≤◌, length, IfOk, OnOk};
+ghost use Rattle.refusals.specs.Refusal.{lowest, number_of, sizes as size_conditions, contents as content_conditions, mask_contents, row_contents, not_below_p, alpha_count as alpha_condition, fold_count as fold_condition, canonical as is_canonical, distinct as are_distinct};
 
 use algebra::P;
 use refusals::Refusal;
@@ -10,6 +10,9 @@ use residue::Residue;
 use table::columns::NUM_CPU_COLS;
 use table::masks::NUM_MASKS;
 use table::{Masks, Row};
+
+// The most values that may be folded since the accumulators were lent.
+const MOST_FOLDED: u64 = 4294967295;
 
 // Every number is below p. Each number is tested, also behind one that is not, so that several are tested at once.
 pub fn canonical(numbers: &[u64]) -> bool
@@ -110,6 +113,41 @@ pub fn lent<'a>(
 {
     contents(masks, lv, nv)?;
     Ok((Masks::lend(masks), Row::lend(lv), Row::lend(nv)))
+}
+
+// There are 1 to 8 alphas, and as many accumulators.
+pub fn alpha_count(alphas: usize, accs: usize) -> Result<(), Refusal>
+    ensures { number_of result ≡ lowest (alpha_condition alphas accs ∷ []) }
+{
+    if alphas == 0 || alphas > 8 || accs != alphas {
+        return Err(Refusal::AlphaCount);
+    }
+    Ok(())
+}
+
+// Weights, alphas and accumulators are below p.
+#[tactic(auto, using(refusals::proofs::Laws::appended))]
+pub fn below_p(weights: &[u64], alphas: &[u64], accs: &[u64]) -> Result<(), Refusal>
+    ensures number { number_of result ≡ lowest (not_below_p (weights.now ++ alphas.now ++ accs.now) ∷ []) }
+    ensures weights { OnOk result (is_canonical weights.now ≡ true) }
+    ensures alphas { OnOk result (is_canonical alphas.now ≡ true) }
+    ensures accumulators { OnOk result (is_canonical accs.now ≡ true) }
+{
+    if !canonical(weights) || !canonical(alphas) || !canonical(accs) {
+        return Err(Refusal::NotBelowP);
+    }
+    Ok(())
+}
+
+// Behind so many folded values more may be folded.
+pub fn fold_count(folded: u64, more: u64) -> Result<(), Refusal>
+    ensures number { number_of result ≡ lowest (fold_condition folded more ∷ []) }
+    ensures room { OnOk result (folded + more ≤ 4294967295) }
+{
+    if folded > MOST_FOLDED || more > MOST_FOLDED - folded {
+        return Err(Refusal::FoldCount);
+    }
+    Ok(())
 }
 
 // A weight, a lone operand or a folded value, as a type.

@@ -1,2 +1,1 @@
 pub mod Consumer
-pub mod Yielded

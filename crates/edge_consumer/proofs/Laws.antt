@@ -12,8 +12,8 @@ use Rattle.algebra.specs.Prime.{p}
 use Rattle.algebra.specs.Expr.{Expr, var, con, ◌⊕◌, ◌⊖◌, ◌⊗◌, eval}
 use Rattle.std.specs.Prelude.{Result, Ok, Err}
 use Rattle.refusals.specs.declared.Refusal.{Refusal}
-use Rattle.refusals.specs.Refusal.{canonical, sizes, contents, value_buffer, alpha_count, not_below_p, number, number_of, refused}
-use Rattle.refusals.proofs.Laws.{clear, behind, number_positive, given_unless}
+use Rattle.refusals.specs.Refusal.{canonical, sizes, contents, value_buffer, alpha_count, not_below_p, number, number_of}
+use Rattle.refusals.proofs.Laws.{clear, behind, number_positive}
 use Rattle.residue.specs.Residues.{add_p, neg_p, mul_p, residues}
 use Rattle.residue.proofs.Laws.{mul_p_comm, mul_p-one}
 use Rattle.table.specs.Cells.{Cell, cells}
@@ -27,19 +27,18 @@ use Rattle.rulebook.proofs.Weights.{reads_rows, reduced, value-lt}
 use Rattle.pair_checks.specs.PairValues.{pair_values_refusal, pair_values_buffer}
 use Rattle.pair_checks.proofs.Laws.{values_written}
 use Rattle.consumer.specs.declared.ConstraintConsumer.{ConstraintConsumer}
-use Rattle.consumer.specs.declared.Kind.{Kind as Kind_of_code}
-use Rattle.consumer.specs.Consumer.{Outcome, kind_of, answered, taken, made, accumulators}
-use Rattle.consumer.specs.Yielded.{Yielded, taken_all}
-use Rattle.consumer.proofs.Folds.{yielded}
+use Rattle.consumer.specs.declared.Kind.{Kind as Kind_of_call}
+use Rattle.consumer.specs.Consumer.{taken, left, filled, made, accumulators}
+use Rattle.consumer_history.specs.Yielded.{Yielded, taken_all, call_of, yielded}
 use Rattle.pair_fold_checks.specs.PairFold.{pair_fold_refusal, pair_fold_accumulators}
 use Rattle.pair_fold_checks.proofs.Laws.{cells-canonical}
-use Rattle.theorems.proofs.ByConsumer.{by_consumer}
-use Rattle.edge_consumer.specs.Calls.{named, kinds, yielded_by}
+use Rattle.theorems.proofs.ByConsumer.{made-is, by_consumer}
+use Rattle.edge_consumer.specs.Calls.{kinds, yielded_by}
 
 -- one value and the rest, and no value left
-module _ (d : ConstraintConsumer) (ks : List Kind_of_code) (vs : List ℕ) where
-  pub taken_next : (k : Kind_of_code) (v : ℕ) (rest : List Kind_of_code) (more : List ℕ) → ks ≡ k ∷ rest → vs ≡ v ∷ more
-      → (e : ConstraintConsumer) → e ≡ (taken (kind_of k) d v).consumer
+module _ (d : ConstraintConsumer) (ks : List Kind_of_call) (vs : List ℕ) where
+  pub taken_next : (k : Kind_of_call) (v : ℕ) (rest : List Kind_of_call) (more : List ℕ) → ks ≡ k ∷ rest → vs ≡ v ∷ more
+      → (e : ConstraintConsumer) → e ≡ left d (taken k d v)
       → taken_all d (yielded_by ks vs) ≡ taken_all e (yielded_by rest more)
   unfolding taken_all yielded_by
   taken_next k v rest more h i e j = rw (h, i, j)
@@ -49,7 +48,7 @@ module _ (d : ConstraintConsumer) (ks : List Kind_of_code) (vs : List ℕ) where
   taken_none (inl h) = rw h
   taken_none (inr h) = rw h (go ks)
     where
-      go : (ks : List Kind_of_code) → taken_all d (yielded_by ks []) ≡ d
+      go : (ks : List Kind_of_call) → taken_all d (yielded_by ks []) ≡ d
       go [] = refl
       go (k ∷ ks) = refl
 
@@ -71,6 +70,13 @@ bare_table = refl
 
 times-one : (v : ℕ) → v < p → mul_p v 1 ≡ v
 times-one v h = mul_p_comm v 1 ∙ mul_p-one v ∙ mod-eq_of_lt h
+
+given : (c d : ConstraintConsumer) → ◌≡◌ {A = Result ConstraintConsumer Refusal} (Ok c) (Ok d) → c ≡ d
+given c d e = ap of e
+  where
+    of : Result ConstraintConsumer Refusal → ConstraintConsumer
+    of (Ok x) = x
+    of (Err _) = c
 
 -- a fold that is not turned back
 module _ (masks lv nv : List ℕ) (z f : ℕ) (alphas accs : List ℕ) (e : pair_fold_refusal masks lv nv z f alphas accs ≡ 0) where
@@ -106,35 +112,31 @@ module _ (masks lv nv : List ℕ) (z f : ℕ) (alphas accs : List ℕ) (e : pair
       go transition = unit
       go first = unit
 
-  same_kind : (k : Kind) → kind_of (named k) ≡ k
-  same_kind plain = refl
-  same_kind transition = refl
-  same_kind first = refl
-
-  yields : (es : List Entry) → all bare es ≡ true → yielded_by (map (λ v. named v.kind) es) (values residues x es) ≡ map (yielded y) es
+  yields : (es : List Entry) → all bare es ≡ true → yielded_by (map (λ v. call_of v.kind) es) (values residues x es) ≡ yielded y es
   unfolding yielded_by values
   yields [] h = refl
   yields (v ∷ es) h =
       let b = and_left (bare v) _ h in
       let w = one v.kind v.expr (and_left _ _ b) (and_right (reads_rows v.expr) _ b) in
-      ap₂ (λ (s : Yielded) (l : List Yielded). s ∷ l) (λ i. record { kind = same_kind v.kind i; value = w i }) (yields es (and_right (bare v) _ h))
+      ap₂ (λ (n : ℕ) (l : List Yielded). record { kind = call_of v.kind; value = n } ∷ l) w (yields es (and_right (bare v) _ h))
 
-  yielded_all : yielded_by kinds (pair_values masks lv nv 1 1) ≡ map (yielded y) table
+  yielded_all : yielded_by kinds (pair_values masks lv nv 1 1) ≡ yielded y table
   unfolding pair_values kinds
   yielded_all = yields table bare_table
 
   -- what a consumer leaves of the accumulators that takes the values vs
-  pub left_by_consumer : (vs : List ℕ) (o : Outcome) (d : ConstraintConsumer) (out : List ℕ) → vs ≡ pair_values_buffer masks lv nv 1 1 (replicate 226 0)
-      → o ≡ made alphas accs z f 1
-      → d ≡ taken_all o.consumer (yielded_by kinds vs)
+  pub left_by_consumer : (vs : List ℕ) (c d : ConstraintConsumer) (out : List ℕ) → vs ≡ pair_values_buffer masks lv nv 1 1 (replicate 226 0)
+      → Ok c ≡ made alphas accs z f 1
+      → d ≡ taken_all c (yielded_by kinds vs)
       → out ≡ accumulators d accs
       → out ≡ pair_fold_accumulators masks lv nv z f alphas accs
-  left_by_consumer vs o d out h i j k =
+  left_by_consumer vs c d out h i j k =
       let w = h ∙ values_written masks lv nv 1 1 (replicate 226 0) refl values-accepted in
+      let g = given c (filled alphas accs z f 1) (i ∙ made-is masks lv nv z f 1 alphas accs e (lit< tt)) in
       k
       ∙ ap (λ (t : ConstraintConsumer). accumulators t accs) (j
-      ∙ ap (λ (t : Outcome). taken_all t.consumer (yielded_by kinds vs)) i
-      ∙ ap (taken_all (made alphas accs z f 1).consumer) (ap (yielded_by kinds) w ∙ yielded_all))
+      ∙ ap (λ (t : ConstraintConsumer). taken_all t (yielded_by kinds vs)) g
+      ∙ ap (taken_all (filled alphas accs z f 1)) (ap (yielded_by kinds) w ∙ yielded_all))
       ∙ sym (by_consumer masks lv nv z f 1 alphas accs e (lit< tt))
 
 -- a call with the number 0 gives no refusal
@@ -142,14 +144,3 @@ pub not_refused : {A : Type 0} (r : Result A Refusal) (q : Refusal) → r ≡ Er
 not_refused r q e z =
     let k : number q ≡ 0 = sym (ap number_of e) ∙ z in
     omega (arith, number_positive q, k)
-
--- what a consumer's call answers that is not turned back
-pub given : (o : Outcome) → o.number ≡ 0 → answered o ≡ Ok o.consumer
-given o e = sym (given_unless refused (Ok o.consumer) o.number e)
-
-pub given_consumer : (o : Outcome) (c : ConstraintConsumer) → o.number ≡ 0 → Ok c ≡ answered o → c ≡ o.consumer
-given_consumer o c e h = ap of (h ∙ given o e)
-  where
-    of : Result ConstraintConsumer Refusal → ConstraintConsumer
-    of (Ok c) = c
-    of (Err _) = o.consumer

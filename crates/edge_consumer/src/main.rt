@@ -3,8 +3,8 @@
 #![tactic(auto)]
 
 ghost use Rattle.std.specs.Prelude.{◌≡◌};
-ghost use Rattle.consumer.specs.Consumer.{kind_of, taken};
-ghost use Rattle.consumer.specs.Yielded.{taken_all};
+ghost use Rattle.consumer.specs.Consumer.{taken, left};
+ghost use Rattle.consumer_history.specs.Yielded.{taken_all};
 ghost use Rattle.pair_fold_checks.specs.PairFold.{pair_fold_refusal, pair_fold_accumulators};
 ghost use Rattle.edge_consumer.specs.Calls.{kinds, yielded_by};
 
@@ -21,12 +21,13 @@ mod kinds;
 
 // A value to the call of its kind. A call that is turned back leaves the consumer as it was.
 fn push(consumer: &mut ConstraintConsumer, kind: Kind, value: u64)
-    ensures { consumer.new ≡ (taken (kind_of kind) consumer.old value).consumer }
+    ensures { consumer.new ≡ left consumer.old (taken kind consumer.old value) }
 {
     let _ = match kind {
         Kind::Plain => consumer.constraint(value),
         Kind::Transition => consumer.constraint_transition(value),
         Kind::FirstRow => consumer.constraint_first_row(value),
+        Kind::LastRow => consumer.constraint_last_row(value),
     };
 }
 

@@ -14,6 +14,8 @@ ghost use Rattle.flat.specs.Flat.{flat_residue, flat_signed, flat_verdict, flat_
 use flat::{FelmugoReport, FelmugoResidue, FelmugoSigned, FelmugoVerdict};
 use refusals::number_of;
 
+mod consumers;
+
 #[unsafe(no_mangle)]
 pub extern "C" fn felmugo_add(a: u64, b: u64) -> FelmugoResidue
     ensures { result ≡ flat_residue (checked add_p a b) }

@@ -8,10 +8,13 @@ use Rattle.answers.specs.declared.Verdict.{Verdict}
 use Rattle.answers.specs.Verdict.{keeps_of}
 use Rattle.answers.specs.Report.{Report}
 use Rattle.answers.specs.Spot.{found, pair_of, value_of}
+use Rattle.consumer.specs.declared.ConstraintConsumer.{ConstraintConsumer}
+use Rattle.consumer.specs.Consumer.{empty, left}
 use Rattle.flat.specs.declared.FelmugoResidue.{FelmugoResidue}
 use Rattle.flat.specs.declared.FelmugoSigned.{FelmugoSigned}
 use Rattle.flat.specs.declared.FelmugoVerdict.{FelmugoVerdict}
 use Rattle.flat.specs.declared.FelmugoReport.{FelmugoReport}
+use Rattle.flat.specs.declared.FelmugoOutcome.{FelmugoOutcome}
 
 -- document 01's number and value of a residue entry's answer
 abbrev pub flat_residue : Result ℕ Refusal → FelmugoResidue
@@ -36,3 +39,7 @@ flat_report r =
       pair = pair_of r.spot;
       value = value_of r.spot;
     }
+
+-- document 01's number of an answer of `new`, and the consumer: one without places where the call is turned back
+abbrev pub flat_outcome : Result ConstraintConsumer Refusal → FelmugoOutcome
+flat_outcome r = record { number = number_of r; consumer = left empty r }

@@ -3,6 +3,7 @@
 #![tactic(auto)]
 
 use answers::{Report, Spot, Verdict};
+use consumer::ConstraintConsumer;
 use refusals::Refusal;
 
 // A residue, or the number of the refusal with the value 0.
@@ -129,6 +130,42 @@ impl From<Result<Report, Refusal>> for FelmugoReport {
             found,
             pair,
             value,
+        }
+    }
+}
+
+// A consumer, or the number of the refusal with a consumer that has no places: every call turns it back.
+#[repr(C)]
+#[derive(Clone, Copy)]
+pub struct FelmugoOutcome {
+    pub number: u64,
+    pub consumer: ConstraintConsumer,
+}
+
+impl From<Result<ConstraintConsumer, Refusal>> for FelmugoOutcome {
+    ghost use Rattle.std.specs.Prelude.{◌≡◌};
+    ghost use Rattle.flat.specs.Flat.{flat_outcome};
+
+    ghost from_gives = { λ answer flat. flat ≡ flat_outcome answer };
+
+    fn from(answer: Result<ConstraintConsumer, Refusal>) -> FelmugoOutcome {
+        match answer {
+            Ok(consumer) => FelmugoOutcome {
+                number: 0,
+                consumer,
+            },
+            Err(refusal) => FelmugoOutcome {
+                number: refusal.number(),
+                consumer: ConstraintConsumer {
+                    alphas: [0; 8],
+                    constraint_accs: [0; 8],
+                    count: 0,
+                    z_last: 0,
+                    lagrange_basis_first: 0,
+                    lagrange_basis_last: 0,
+                    folded: 0,
+                },
+            },
         }
     }
 }

@@ -9,13 +9,14 @@ use lib.ListN.{length, get_or, take, drop, take-append-drop}
 use lib.Seq.{drop-cons}
 use lib.Dec.{T, eqb, ltb, ltb→lt, lit<}
 use borrow.Author.Tests.{eqb-true, eqb-false, eq-eqb, ne_eqb, not-false, ltb-true}
-use Rattle.std.specs.Prelude.{Ok}
+use Rattle.std.specs.Prelude.{Result, Ok, Err}
+use Rattle.std.proofs.Math.Facts.{eqb_yes}
 use Rattle.std.specs.List.{fold, list_any}
 use Rattle.algebra.specs.Prime.{p}
 use Rattle.algebra.proofs.Slices.{to_end}
 use Rattle.refusals.specs.Refusal.{Condition, lowest, unless, canonical, member, distinct, number, number_of, refusal, refused}
 use Rattle.refusals.specs.declared.Refusal.{Refusal}
-use Rattle.refusals.specs.declared.Refusal.TheVariants.{RowLength, MaskCount, ValueBuffer, AlphaCount, MaskContents, RowContents, NotBelowP, FlagsNotPlain}
+use Rattle.refusals.specs.declared.Refusal.TheVariants.{RowLength, MaskCount, ValueBuffer, AlphaCount, MaskContents, RowContents, NotBelowP, FlagsNotPlain, FoldCount}
 
 -- none of the conditions holds
 abbrev pub Clear : List Condition → Type 0
@@ -141,6 +142,7 @@ refusal-number MaskContents = refl
 refusal-number RowContents = refl
 refusal-number NotBelowP = refl
 refusal-number FlagsNotPlain = refl
+refusal-number FoldCount = refl
 
 pub number_positive : (r : Refusal) → 0 < number r
 number_positive RowLength = omega arith
@@ -151,6 +153,15 @@ number_positive MaskContents = omega arith
 number_positive RowContents = omega arith
 number_positive NotBelowP = omega arith
 number_positive FlagsNotPlain = omega arith
+number_positive FoldCount = omega arith
+
+-- a call that one condition alone turns back: it holds, and its number is the answer's
+pub one_refused : (c : Condition) (r : Refusal) → number r ≡ lowest (c ∷ []) → (c.holds ≡ true) × (number r ≡ c.number)
+one_refused c r e = go c.holds e
+  where
+    go : (b : Bool) → number r ≡ cond b c.number 0 → (b ≡ true) × (number r ≡ c.number)
+    go true e = (refl, e)
+    go false e = absurd (omega (arith, number_positive r, e))
 
 -- whether every number is canonical, and whether x is among the numbers, in the words of the library
 pub canonical_fold : (b : Bool) (l : List ℕ) → fold (λ b x. b && ltb x p) b l ≡ (b && canonical l)
@@ -170,38 +181,33 @@ distinct_first [] h = absurd (omega arith)
 distinct_first (x ∷ l) h =
     rw (to_end 1 (x ∷ l)) (refl, ap (λ (b : Bool). not b && distinct l) (sym (member_any x l)))
 
--- every number is one of the table's: computed, and so shown by `tt`
+-- every number is that of its line in the table: computed, and so shown by `tt`
 abbrev pub listed : List Condition → Bool
 listed [] = true
-listed (c ∷ cs) = ltb c.number 9 && listed cs
-
-lowest-listed : (cs : List Condition) → T (listed cs) → lowest cs < 9
-lowest-listed [] t = omega arith
-lowest-listed (c ∷ cs) t =
-    let s = and_T (ltb c.number 9) (listed cs) t in
-    go c.holds (ltb→lt c.number 9 s.0) (lowest-listed cs s.1)
-  where
-    go : (b : Bool) {n m : ℕ} → n < 9 → m < 9 → cond b n m < 9
-    go true h k = h
-    go false h k = k
-
-number-refusal : (n : ℕ) → 0 < n → n < 9 → number (refusal n) ≡ n
-number-refusal zero h k = absurd (omega arith)
-number-refusal (suc zero) h k = refl
-number-refusal (suc (suc zero)) h k = refl
-number-refusal (suc (suc (suc zero))) h k = refl
-number-refusal (suc (suc (suc (suc zero)))) h k = refl
-number-refusal (suc (suc (suc (suc (suc zero))))) h k = refl
-number-refusal (suc (suc (suc (suc (suc (suc zero)))))) h k = refl
-number-refusal (suc (suc (suc (suc (suc (suc (suc zero))))))) h k = refl
-number-refusal (suc (suc (suc (suc (suc (suc (suc (suc zero)))))))) h k = refl
-number-refusal (suc (suc (suc (suc (suc (suc (suc (suc (suc n))))))))) h k = absurd (omega arith)
+listed (c ∷ cs) = eqb (number (refusal c.number)) c.number && listed cs
 
 -- the number of an answer that is refused with a number of the table, or given
 module _ {A : Type 0} (a : A) where
-  number_of-small : (n : ℕ) → n < 9 → number_of (unless n refused (Ok a)) ≡ n
-  number_of-small zero h = refl
-  number_of-small (suc n) h = number-refusal (suc n) (omega arith) h
+  number_of-own : (n : ℕ) → number (refusal n) ≡ n → number_of (unless n refused (Ok a)) ≡ n
+  number_of-own zero e = refl
+  number_of-own (suc n) e = e
 
   pub number_of-unless : (cs : List Condition) → T (listed cs) → number_of (unless (lowest cs) refused (Ok a)) ≡ lowest cs
-  number_of-unless cs t = number_of-small (lowest cs) (lowest-listed cs t)
+  number_of-unless [] t = refl
+  number_of-unless (c ∷ cs) t =
+      let s = and_T (eqb (number (refusal c.number)) c.number) (listed cs) t in
+      go c.holds (eqb_yes s.0) (number_of-unless cs s.1)
+    where
+      go : (b : Bool) {n m : ℕ} → number (refusal n) ≡ n → number_of (unless m refused (Ok a)) ≡ m →
+          number_of (unless (cond b n m) refused (Ok a)) ≡ cond b n m
+      go true e f = number_of-own _ e
+      go false e f = f
+
+-- what is given was not refused
+pub given-is : {A : Type 0} (n : ℕ) (a b : A) → unless n refused (Ok a) ≡ Ok b → (n ≡ 0) × (a ≡ b)
+given-is zero a b e = (refl, ap (ok a) e)
+  where
+    ok : {A : Type 0} → A → Result A Refusal → A
+    ok d (Ok x) = x
+    ok d (Err r) = d
+given-is (suc n) a b e = absurd (omega (arith, number_positive (refusal (suc n)), ap number_of e))

@@ -1,9 +1,9 @@
 -- "Where a call is turned back" (document 01): one definition for each line of the table.
-use Rattle.std.specs.Prelude.{Bool, true, false, cond, not, ◌&&◌, ◌||◌, List, [], ◌∷◌, ◌++◌, ℕ, codes, zero, suc, ◌-◌, ◌/◌, ◌%◌, length, get_or, take, ℤ, nat_abs, eqb, ltb, Result, Ok, Err}
+use Rattle.std.specs.Prelude.{Bool, true, false, cond, not, ◌&&◌, ◌||◌, List, [], ◌∷◌, ◌++◌, ℕ, codes, zero, suc, ◌+◌, ◌-◌, ◌/◌, ◌%◌, length, get_or, take, ℤ, nat_abs, eqb, ltb, Result, Ok, Err}
 use Rattle.std.specs.Fmt.{decimal}
 use Rattle.algebra.specs.Prime.{p}
 use Rattle.refusals.specs.declared.Refusal.{Refusal}
-use Rattle.refusals.specs.declared.Refusal.TheVariants.{RowLength, MaskCount, ValueBuffer, AlphaCount, MaskContents, RowContents, NotBelowP, FlagsNotPlain}
+use Rattle.refusals.specs.declared.Refusal.TheVariants.{RowLength, MaskCount, ValueBuffer, AlphaCount, MaskContents, RowContents, NotBelowP, FlagsNotPlain, FoldCount}
 
 -- a number, and whether its condition holds
 pub record Condition : Type 0 where
@@ -81,6 +81,14 @@ not_in_range z = record { number = 7; holds = ltb greatest (nat_abs z) }
 abbrev pub flags_not_plain : Bool → Condition
 flags_not_plain plain = record { number = 8; holds = not plain }
 
+-- "It refuses with 9 a fold that would pass a count of 4,294,967,295, checked after all others, with the record unaltered." (document 02,
+-- 2/12): of so many values folded before, and so many more
+abbrev pub most_folded : ℕ
+most_folded = 4294967295
+
+abbrev pub fold_count : ℕ → ℕ → Condition
+fold_count folded more = record { number = 9; holds = ltb most_folded (folded + more) }
+
 -- the conditions on the lengths of the masks and of a pair of rows, and on their contents
 abbrev pub sizes : List ℕ → List ℕ → List ℕ → List Condition
 sizes masks lv nv = row_length lv ∷ row_length nv ∷ mask_count masks ∷ []
@@ -98,6 +106,7 @@ number MaskContents = 5
 number RowContents = 6
 number NotBelowP = 7
 number FlagsNotPlain = 8
+number FoldCount = 9
 
 -- what a line prints
 abbrev pub text : Refusal → List ℕ
@@ -106,10 +115,10 @@ text r = codes "refused " ++ decimal (number r)
 -- the lines in the order of their numbers, which begin with 1, and the line of a number
 abbrev pub lines : List Refusal
 lines =
-    RowLength ∷ MaskCount ∷ ValueBuffer ∷ AlphaCount ∷ MaskContents ∷ RowContents ∷ NotBelowP ∷ FlagsNotPlain ∷ []
+    RowLength ∷ MaskCount ∷ ValueBuffer ∷ AlphaCount ∷ MaskContents ∷ RowContents ∷ NotBelowP ∷ FlagsNotPlain ∷ FoldCount ∷ []
 
 abbrev pub refusal : ℕ → Refusal
-refusal n = get_or lines (n - 1) FlagsNotPlain
+refusal n = get_or lines (n - 1) FoldCount
 
 -- the number of what a call answers: 0 where it is not turned back
 abbrev pub number_of : {A : Type 0} → Result A Refusal → ℕ

@@ -17,6 +17,7 @@ pub enum Refusal {
     RowContents = 6,
     NotBelowP = 7,
     FlagsNotPlain = 8,
+    FoldCount = 9,
 }
 
 impl Refusal {

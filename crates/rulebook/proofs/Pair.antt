@@ -35,9 +35,9 @@ fair_table = refl
 
 -- how many values a pair has, and that each is canonical where its cells are
 module _ (masks lv nv : List ℕ) (z f : ℕ) where
-  pub values-count : length (pair_values masks lv nv z f) ≡ 226
+  pub values_count : length (pair_values masks lv nv z f) ≡ 226
   unfolding pair_values values
-  values-count = length-map table _ ∙ table-length
+  values_count = length-map table _ ∙ table-length
 
   module _ (canon : (c : Cell) → cells masks lv nv z f c < p) where
     values-below : (es : List Entry) → all fair es ≡ true → All (λ v. v < p) (values residues (cells masks lv nv z f) es)

@@ -11,14 +11,14 @@ use Rattle.refusals.specs.Refusal.{canonical}
 use Rattle.refusals.proofs.Laws.{canonical-below}
 use Rattle.table.specs.Rows.{Row}
 use Rattle.table.specs.Table.{pair_values}
-use Rattle.rulebook.proofs.Pair.{values-count}
+use Rattle.rulebook.proofs.Pair.{values_count}
 use Rattle.run_pairs.specs.Run.{first_weight}
 use Rattle.stream_model.specs.Sound.{Sound}
 use Rattle.stream_model.specs.declared.State.{State}
 use Rattle.stream_model.proofs.Laws.{first_below, pair-canonical}
 
 pub pair_few : (masks lv nv : List ℕ) (z w : ℕ) → length (pair_values masks lv nv z w) ≤ 226
-pair_few masks lv nv z w = omega (arith, values-count masks lv nv z w)
+pair_few masks lv nv z w = omega (arith, values_count masks lv nv z w)
 
 pub pair_below : (s : State) (nv : List ℕ) (z w : ℕ) → w ≡ first_weight (s.rows - 1) → Sound s → Row nv → z < p
     → All (λ v. v < p) (pair_values s.masks s.previous nv z w)

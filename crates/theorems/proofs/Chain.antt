@@ -17,7 +17,7 @@ use Rattle.table.specs.Table.{pair_values}
 use Rattle.pair_checks.specs.PairValues.{pair_values_refusal, pair_values_buffer}
 use Rattle.rulebook.specs.Plain.{is_first, is_last, pair_keeps}
 use Rattle.theorems.specs.Demand3.{Given}
-use Rattle.rulebook.proofs.Pair.{values-count}
+use Rattle.rulebook.proofs.Pair.{values_count}
 use Rattle.theorems.proofs.Demand3.{canonical_of, keeps_iff_zeros}
 use Rattle.answers.specs.declared.Verdict.TheVariants.{Keeps}
 use Rattle.answers.specs.declared.Verdict.{Verdict}
@@ -93,7 +93,7 @@ module _ (masks lv nv : List ℕ) (z f : ℕ) (given : Given masks lv nv z f) wh
     zeros_of_keeps : verdict_of masks lv nv (is_first f) (is_last z) ≡ Ok Keeps → pair_values_buffer masks lv nv z f out ≡ replicate 226 0 ++ drop 226 out
     zeros_of_keeps e =
         written
-        ∙ ap (λ (vs : List ℕ). vs ++ drop 226 out) (zeros-are 226 (pair_values masks lv nv z f) (values-count masks lv nv z f)
+        ∙ ap (λ (vs : List ℕ). vs ++ drop 226 out) (zeros-are 226 (pair_values masks lv nv z f) (values_count masks lv nv z f)
         ((keeps_iff_zeros masks lv nv z f given).0 (is-keeps (pair_keeps masks lv nv (is_first f) (is_last z)) (sym answered ∙ e))))
 
     keeps_of-zeros : pair_values_buffer masks lv nv z f out ≡ replicate 226 0 ++ drop 226 out → verdict_of masks lv nv (is_first f) (is_last z) ≡ Ok Keeps
@@ -101,7 +101,7 @@ module _ (masks lv nv : List ℕ) (z f : ℕ) (given : Given masks lv nv z f) wh
         answered
         ∙ keeps-is (pair_keeps masks lv nv (is_first f) (is_last z))
         ((keeps_iff_zeros masks lv nv z f given).1
-        (all_zeros 226 (sym (take_at (pair_values masks lv nv z f) (drop 226 out) 226 (values-count masks lv nv z f)) ∙ ap (take 226) (sym written ∙ e) ∙ take_at (replicate 226 0) (drop 226 out) 226 (length-replicate {A = ℕ} 226 0))))
+        (all_zeros 226 (sym (take_at (pair_values masks lv nv z f) (drop 226 out) 226 (values_count masks lv nv z f)) ∙ ap (take 226) (sym written ∙ e) ∙ take_at (replicate 226 0) (drop 226 out) 226 (length-replicate {A = ℕ} 226 0))))
 
     pub judged_iff_zeros : (verdict_of masks lv nv (is_first f) (is_last z) ≡ Ok Keeps) ↔ (pair_values_buffer masks lv nv z f out ≡ replicate 226 0 ++ drop 226 out)
     judged_iff_zeros = (zeros_of_keeps, keeps_of-zeros)

@@ -17,9 +17,9 @@ use Rattle.refusals.specs.Refusal.{canonical}
 use Rattle.residue.specs.Residues.{residues}
 use Rattle.table.specs.Table.{pair_values}
 use Rattle.rulebook.proofs.Tests.{true_of, of_true}
-use Rattle.rulebook.proofs.Pair.{values-count, values-canonical, canonical-cells}
+use Rattle.rulebook.proofs.Pair.{values_count, values-canonical, canonical-cells}
 use Rattle.rulebook.proofs.Theorem.{rules_iff_values}
-use Rattle.consumer.specs.Yielded.{folds}
+use Rattle.accumulators.specs.Accumulated.{folds}
 use Rattle.pair_fold_checks.specs.PairFold.{pair_fold_refusal, pair_fold_accumulators}
 use Rattle.theorems.specs.ManyFold.{FoldsToZero, Many}
 use Rattle.theorems.specs.Demand3.{Given, KeepsEveryRule, Demand3}
@@ -94,7 +94,7 @@ module _ (masks lv nv : List ℕ) (z f : ℕ) (given : Given masks lv nv z f) wh
       head_is e = ap (λ (l : List ℕ). get_or l 0 0) e
 
       enough : length (pair_values masks lv nv z f) ≤ length m.alphas
-      enough = omega (arith, values-count masks lv nv z f, m.many)
+      enough = omega (arith, values_count masks lv nv z f, m.many)
 
 -- demand 3
 pub demand_3 : (masks lv nv : List ℕ) (z f : ℕ) → Given masks lv nv z f → Demand3 masks lv nv z f

@@ -19,7 +19,7 @@ use Rattle.rulebook.specs.Kind.{ones, first_one, kind_of}
 use Rattle.rulebook.specs.Rulebook.{rules_A, rules_B, rules_C, rules_D, rules_E, rules_F, rules_G, rules_H, rules_I, rules_J, rules_K, rules_L, rules_M, rules_N, rulebook, keeps}
 use Rattle.rulebook.specs.Plain.{Accepted, bits, plain_flags, pair_keeps, pair_plain}
 use Rattle.rulebook.proofs.Open.{open_table}
-use Rattle.rulebook.proofs.Pair.{values-count}
+use Rattle.rulebook.proofs.Pair.{values_count}
 use Rattle.run_pairs.specs.Run.{row_at, pair_at, tabulate, pairs_of, run_refusal}
 use Rattle.answers.specs.declared.Spot.TheVariants.{Clean}
 use Rattle.runs.specs.Report.{failing, spot_from, report_of}
@@ -46,7 +46,7 @@ kept lv nv first last row next_row passes =
       plain = passes.0;
       keeps = passes.1;
       values = λ z f w.
-          zeros-are 226 (pair_values powers lv nv z f) (values-count powers lv nv z f)
+          zeros-are 226 (pair_values powers lv nv z f) (values_count powers lv nv z f)
           ((keeps_iff_zeros powers lv nv z f (given z f w)).0 (kept_at z f w));
       folds = λ z f w.
           let d = demand_3 powers lv nv z f (given z f w) in

@@ -17,7 +17,7 @@ use Rattle.rulebook.specs.Rule.{holds, keeps_sentence, keeps_all}
 use Rattle.rulebook.specs.Kind.{first_one, kind_of}
 use Rattle.rulebook.specs.Rulebook.{rules_G}
 use Rattle.rulebook.proofs.Open.{open_table}
-use Rattle.consumer.specs.Yielded.{folds}
+use Rattle.accumulators.specs.Accumulated.{folds}
 use Rattle.pair_fold_checks.specs.PairFold.{pair_fold_refusal, pair_fold_accumulators}
 use Rattle.run_pairs.specs.Run.{row_at, pair_at, tabulate, pairs_of, run_refusal}
 use Rattle.words.specs.Words.{words, little_endian}

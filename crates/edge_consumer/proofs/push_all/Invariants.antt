@@ -1,7 +1,7 @@
 use mathlib.Core.Path.{◌≡◌}
 use Rattle.std.specs.Iterator.Adapters.{zip_first, zip_second}
 use Rattle.std.specs.Slice.Iter.{iter_rest}
-use Rattle.consumer.specs.Yielded.{taken_all}
+use Rattle.consumer_history.specs.Yielded.{taken_all}
 use Rattle.edge_consumer.specs.Calls.{yielded_by}
 use Rattle.edge_consumer.proofs.push_all.Given as goal
 
