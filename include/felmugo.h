@@ -4,8 +4,8 @@
  * The functions are in target/staticlib/libffi.a, which `tools/build ffi` makes.
  *
  * p is FELMUGO_P, 2^64 - 2^32 + 1. A row is 94 values, a list of masks 25, and the values of a pair
- * are 226, all below p. A pointer is followed by its length, counted in values; one whose length is
- * 0 may be NULL. The buffer that a call writes to must not overlap another of the same call, and
+ * are 226, all below p. A pointer to values is followed by their number; where that is 0 it may be
+ * NULL. The buffer that a call writes to must not overlap another of the same call, and
  * nobody else may write to a lent buffer meanwhile; buffers that are only read may overlap. The same
  * holds of a lent consumer: while a call has it, it must not be lent to another, nor overlap a buffer
  * of the same call. Its pointer may not be NULL.
