@@ -94,8 +94,8 @@ typedef struct {
     uint64_t folded;               /* the values folded since the accumulators were lent */
 } FelmugoConsumer;
 
-/* A consumer, or the number of the refusal with a consumer of zeros, which every call refuses with
- * 4. */
+/* A consumer, or the number of the refusal with a consumer of zeros, which no call accepts: its
+ * count is 0. */
 typedef struct {
     uint64_t number;
     FelmugoConsumer consumer;

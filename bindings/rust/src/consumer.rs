@@ -9,14 +9,14 @@ use crate::Refusal;
 /// A value that is yielded makes a · alpha + value · weight of each accumulator a. A pair's values
 /// are yielded together, by [`pair`](Self::pair), all or none.
 ///
-/// Its record ([`FelmugoConsumer`]) may be taken out, stored and handed in again. Whatever record is
-/// handed in, a call tests it, and refuses what no consumer is; places past the count are neither
+/// Its record ([`FelmugoConsumer`]) may be taken out, stored and handed in again. Every call tests
+/// the record, whatever was handed in, and refuses by number; places past the count are neither
 /// tested nor altered.
 #[derive(Clone, Debug, PartialEq, Eq)]
 pub struct ConstraintConsumer(FelmugoConsumer);
 
 impl ConstraintConsumer {
-    /// A consumer of the alphas and of accumulators to begin with, by which nothing is folded yet.
+    /// A consumer of the alphas and of accumulators to begin with, into which nothing is folded yet.
     ///
     /// Refuses, in this order:
     /// 1. alphas that are not 1 to 8, or accumulators that differ in count

@@ -72,8 +72,8 @@ pub struct FelmugoConsumer {
     pub folded: u64,
 }
 
-/// A consumer, or the number of the refusal with a consumer of zeros, which every call refuses
-/// with 4.
+/// A consumer, or the number of the refusal with a consumer of zeros, which no call accepts: its
+/// count is 0.
 #[repr(C)]
 #[derive(Clone, Copy, Debug, Default, PartialEq, Eq)]
 pub struct FelmugoOutcome {
