@@ -6,9 +6,9 @@
  * p is FELMUGO_P, 2^64 - 2^32 + 1. A row is 94 values, a list of masks 25, and the values of a pair
  * are 226, all below p. A pointer to values is followed by their number; where that is 0 it may be
  * NULL. The buffer that a call writes to must not overlap another of the same call, and
- * nobody else may write to a lent buffer meanwhile; buffers that are only read may overlap. The same
- * holds of a lent consumer: while a call has it, it must not be lent to another, nor overlap a buffer
- * of the same call. Its pointer may not be NULL.
+ * nobody else may write to a lent buffer meanwhile; buffers that are only read may overlap. The
+ * same holds of a lent consumer: while a call has it, it must not be lent to another, nor overlap a
+ * buffer of the same call. Its pointer may not be NULL.
  *
  * A number is 0, or that of a refusal. Of the reasons that apply, the lowest number is answered; a
  * refused call leaves lent memory as it was, and the other numbers of its answer are 0. */
@@ -47,8 +47,8 @@ enum {
     FELMUGO_ALPHA_COUNT = 4,     /* alphas: not 1 to 8, or accumulators differ in count */
     FELMUGO_MASK_CONTENTS = 5,   /* masks: one not below p, or two of the first five equal */
     FELMUGO_ROW_CONTENTS = 6,    /* row contents: one not below p */
-    FELMUGO_NOT_BELOW_P = 7,     /* weights, alphas, accumulators, a lone operand or folded value: one
-                                    not below p; a signed number outside the range */
+    FELMUGO_NOT_BELOW_P = 7,     /* weights, alphas, accumulators, a lone operand or folded value:
+                                    one not below p; a signed number outside the range */
     FELMUGO_FLAGS_NOT_PLAIN = 8, /* judge: flags not plain */
     FELMUGO_FOLD_COUNT = 9       /* consumer: a fold that would pass a count of 4,294,967,295 */
 };
@@ -81,9 +81,9 @@ typedef struct {
     uint64_t value;   /* the number of its lowest nonzero value, 1 to 226 (docs/ROWS.md) */
 } FelmugoReport;
 
-/* A consumer: each accumulator in use folds, under its alpha, the values that are yielded. It is the
- * caller's to keep: it may be stored, copied and handed in again, and every call tests what it is
- * handed. Places past the count are neither tested nor altered. */
+/* A consumer: each accumulator in use folds, under its alpha, the values that are yielded. It is
+ * the caller's to keep: it may be stored, copied and handed in again, and every call tests what it
+ * is handed. Places past the count are neither tested nor altered. */
 typedef struct {
     uint64_t alphas[FELMUGO_MAX_ALPHAS];
     uint64_t constraint_accs[FELMUGO_MAX_ALPHAS];
@@ -181,9 +181,9 @@ uint64_t felmugo_consumer_constraint_last_row(FelmugoConsumer *consumer, uint64_
 /* Folds the 226 values of the pair of rows lv (current) and nv (next), each with its weight of the
  * consumer applied, all or none; folded grows by 226.
  * Refuses, in this order: 1 a row not 94 values; 2 masks not 25; 4 a count not 1 to 8; 5 a mask not
- * below p, or two of the first five equal; 6 a value of a row not below p; 7 a weight, or an alpha or
- * accumulator in use not below p; 9 a folded above 4,294,967,069. A refused call leaves the consumer
- * as it was. */
+ * below p, or two of the first five equal; 6 a value of a row not below p; 7 a weight, or an alpha
+ * or accumulator in use not below p; 9 a folded above 4,294,967,069. A refused call leaves the
+ * consumer as it was. */
 uint64_t felmugo_consumer_pair(FelmugoConsumer *consumer,
                                const uint64_t *masks, size_t masks_len,
                                const uint64_t *lv, size_t lv_len,

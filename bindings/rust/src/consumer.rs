@@ -16,7 +16,7 @@ use crate::Refusal;
 pub struct ConstraintConsumer(FelmugoConsumer);
 
 impl ConstraintConsumer {
-    /// A consumer of the alphas and of accumulators to begin with, into which nothing is folded yet.
+    /// A consumer of the alphas and of accumulators to begin with, into which nothing is folded.
     ///
     /// Refuses, in this order:
     /// 1. alphas that are not 1 to 8, or accumulators that differ in count

@@ -21,8 +21,8 @@ pub enum Refusal {
     MaskContents = 5,
     /// 6: a value of a row not below p.
     RowContents = 6,
-    /// 7: a weight, an alpha, an accumulator, a lone operand or a folded value not below p; a signed
-    /// number outside the range.
+    /// 7: a weight, an alpha, an accumulator, a lone operand or a folded value not below p; a
+    /// signed number outside the range.
     NotBelowP = 7,
     /// 8: the judge's flags not plain.
     FlagsNotPlain = 8,

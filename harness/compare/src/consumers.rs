@@ -158,8 +158,8 @@ impl Drawn {
     }
 }
 
-/// A consumer as it was made, or as it may be handed in later: other words stand past its count, and
-/// its count of values is about the greatest.
+/// A consumer as it was made, or as it may be handed in later: other words stand past its count,
+/// and its count of values is about the greatest.
 fn handed_in(rng: &mut Rng, mut record: FelmugoConsumer) -> FelmugoConsumer {
     if rng.one_in(3) {
         record.alphas[record.count..].fill_with(|| not_canonical(rng));
