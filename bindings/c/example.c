@@ -1,4 +1,5 @@
-/* The pair of zero rows that document 01 works out: its values, folds, verdict and report. */
+/* The pair of zero rows that document 01 works out: its values, folds, verdict and report, and a
+ * consumer that takes it. */
 #include <inttypes.h>
 #include <stdio.h>
 
@@ -53,6 +54,33 @@ static uint64_t print_report(void) {
     return report.number;
 }
 
+static uint64_t print_accumulators(const FelmugoConsumer *consumer) {
+    uint64_t accs[3];
+    uint64_t number = felmugo_consumer_accumulators(consumer, accs, 3);
+    if (number == 0)
+        printf("after %" PRIu64 " values: [%" PRIu64 ", %" PRIu64 ", %" PRIu64 "]\n",
+               consumer->folded, accs[0], accs[1], accs[2]);
+    return number;
+}
+
+/* The consumer takes the 226 values, and one of a later table that holds on the last row. */
+static uint64_t print_consumer(void) {
+    const uint64_t alphas[3] = {0, 1, 2}, accs[3] = {0, 0, 0}, lagrange_basis_last = 1;
+    FelmugoOutcome made = felmugo_consumer_new(alphas, 3, accs, 3, z_last, lagrange_basis_first,
+                                               lagrange_basis_last);
+    uint64_t number = made.number;
+    if (number == 0)
+        number = felmugo_consumer_pair(&made.consumer, masks, FELMUGO_MASKS, row, FELMUGO_ROW, row,
+                                       FELMUGO_ROW);
+    if (number == 0)
+        number = print_accumulators(&made.consumer);
+    if (number == 0)
+        number = felmugo_consumer_constraint_last_row(&made.consumer, 5);
+    if (number == 0)
+        number = print_accumulators(&made.consumer);
+    return number;
+}
+
 int main(void) {
     for (int i = 0; i < FELMUGO_MASKS; i++)
         masks[i] = UINT64_C(1) << i;
@@ -62,6 +90,8 @@ int main(void) {
     print_verdict();
     if (number == 0)
         number = print_report();
+    if (number == 0)
+        number = print_consumer();
     if (number != 0)
         printf("refused %" PRIu64 "\n", number);
     return number != 0;

@@ -1,7 +1,7 @@
 //! The answers in types.
 
-use crate::flat::{FelmugoReport, FelmugoResidue, FelmugoSigned, FelmugoVerdict};
-use crate::Refusal;
+use crate::flat::{FelmugoOutcome, FelmugoReport, FelmugoResidue, FelmugoSigned, FelmugoVerdict};
+use crate::{ConstraintConsumer, Refusal};
 
 /// What the judge says of a pair.
 #[derive(Clone, Copy, Debug, PartialEq, Eq)]
@@ -66,5 +66,11 @@ impl From<FelmugoReport> for Result<Report, Refusal> {
             spot: (flat.found != 0).then_some(spot),
         };
         Refusal::or(flat.number, report)
+    }
+}
+
+impl From<FelmugoOutcome> for Result<ConstraintConsumer, Refusal> {
+    fn from(flat: FelmugoOutcome) -> Self {
+        Refusal::or(flat.number, flat.consumer.into())
     }
 }

@@ -1,10 +1,12 @@
 //! The answers as the library gives them: a number, or numbers in a flat struct.
 //!
 //! For who compares them or hands them on; the functions beside this module say the same in
-//! types. The number is 0 or the refusal's; a refused call's other numbers are 0.
+//! types. The number is 0 or the refusal's; a refused call's other numbers are 0. A consumer is a
+//! record that may be stored and handed in again; every call tests what it is handed.
 
 mod exports;
 
+pub use exports::{FelmugoConsumer, FelmugoOutcome};
 pub use exports::{FelmugoReport, FelmugoResidue, FelmugoSigned, FelmugoVerdict};
 
 // SAFETY, for every call below: the functions take any numbers, read and write only within
@@ -113,4 +115,68 @@ pub fn pair_judge(
 /// The answer of [`run_report`](crate::run_report).
 pub fn run_report(run: &[u64], masks: &[u64]) -> FelmugoReport {
     unsafe { exports::felmugo_run_report(run.as_ptr(), run.len(), masks.as_ptr(), masks.len()) }
+}
+
+/// The answer of [`ConstraintConsumer::new`](crate::ConstraintConsumer::new).
+pub fn consumer_new(
+    alphas: &[u64],
+    accs: &[u64],
+    z_last: u64,
+    lagrange_basis_first: u64,
+    lagrange_basis_last: u64,
+) -> FelmugoOutcome {
+    unsafe {
+        exports::felmugo_consumer_new(
+            alphas.as_ptr(),
+            alphas.len(),
+            accs.as_ptr(),
+            accs.len(),
+            z_last,
+            lagrange_basis_first,
+            lagrange_basis_last,
+        )
+    }
+}
+
+/// The number of [`ConstraintConsumer::constraint`](crate::ConstraintConsumer::constraint).
+pub fn consumer_constraint(consumer: &mut FelmugoConsumer, value: u64) -> u64 {
+    unsafe { exports::felmugo_consumer_constraint(consumer, value) }
+}
+
+/// The number of
+/// [`ConstraintConsumer::constraint_transition`](crate::ConstraintConsumer::constraint_transition).
+pub fn consumer_constraint_transition(consumer: &mut FelmugoConsumer, value: u64) -> u64 {
+    unsafe { exports::felmugo_consumer_constraint_transition(consumer, value) }
+}
+
+/// The number of
+/// [`ConstraintConsumer::constraint_first_row`](crate::ConstraintConsumer::constraint_first_row).
+pub fn consumer_constraint_first_row(consumer: &mut FelmugoConsumer, value: u64) -> u64 {
+    unsafe { exports::felmugo_consumer_constraint_first_row(consumer, value) }
+}
+
+/// The number of
+/// [`ConstraintConsumer::constraint_last_row`](crate::ConstraintConsumer::constraint_last_row).
+pub fn consumer_constraint_last_row(consumer: &mut FelmugoConsumer, value: u64) -> u64 {
+    unsafe { exports::felmugo_consumer_constraint_last_row(consumer, value) }
+}
+
+/// The number of [`ConstraintConsumer::pair`](crate::ConstraintConsumer::pair).
+pub fn consumer_pair(consumer: &mut FelmugoConsumer, masks: &[u64], lv: &[u64], nv: &[u64]) -> u64 {
+    unsafe {
+        exports::felmugo_consumer_pair(
+            consumer,
+            masks.as_ptr(),
+            masks.len(),
+            lv.as_ptr(),
+            lv.len(),
+            nv.as_ptr(),
+            nv.len(),
+        )
+    }
+}
+
+/// The number of [`ConstraintConsumer::accumulators`](crate::ConstraintConsumer::accumulators).
+pub fn consumer_accumulators(consumer: &FelmugoConsumer, out: &mut [u64]) -> u64 {
+    unsafe { exports::felmugo_consumer_accumulators(consumer, out.as_mut_ptr(), out.len()) }
 }

@@ -1,18 +1,22 @@
-//! The constraint values of pairs of CPU rows, their signed forms, folds, verdicts and reports: the
-//! safe functions over `libffi.a`, whose code is proved to meet its contracts.
+//! The constraint values of pairs of CPU rows, their signed forms, folds, verdicts and reports, and
+//! the consumer that takes values one by one: the safe functions over `libffi.a`, whose code is
+//! proved to meet its contracts.
 //!
 //! p is [`P`], 2^64 − 2^32 + 1. A row is 94 values, a list of masks 25, and the values of a pair
 //! are 226, all below p. As a signed number a residue is one of −[`GREATEST`] to [`GREATEST`]
 //! ([`signed`], [`unsigned`]). A call that is not answered is refused by a [`Refusal`]: of the
 //! reasons that apply, the lowest number. A refused call leaves lent memory as it was.
 //!
-//! `examples/pair.rs` works out a pair of zero rows.
+//! `examples/pair.rs` works out a pair of zero rows, `examples/consumer.rs` folds it into a
+//! [`ConstraintConsumer`].
 
 mod answers;
+mod consumer;
 pub mod flat;
 mod refusal;
 
 pub use answers::{Report, Spot, Verdict};
+pub use consumer::ConstraintConsumer;
 pub use refusal::Refusal;
 
 /// p: every value is a number below it.
@@ -29,6 +33,8 @@ pub const VALUES: usize = 226;
 pub const MAX_ROWS: usize = 65_536;
 /// The most alphas that a fold may have.
 pub const MAX_ALPHAS: usize = 8;
+/// The greatest count of folded values that a consumer reaches.
+pub const MAX_FOLDED: u64 = 4_294_967_295;
 
 /// `a + b` modulo p, below p.
 ///

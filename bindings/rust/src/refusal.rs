@@ -3,7 +3,7 @@
 use std::error::Error;
 use std::fmt;
 
-/// The reason for which a call is turned back, as document 01 numbers them.
+/// The reason for which a call is turned back, as documents 01 and 02 number them.
 ///
 /// Where several apply, the lowest number is answered, and what was lent to the call is as it was.
 #[derive(Clone, Copy, Debug, PartialEq, Eq, PartialOrd, Ord, Hash)]
@@ -21,16 +21,18 @@ pub enum Refusal {
     MaskContents = 5,
     /// 6: a value of a row not below p.
     RowContents = 6,
-    /// 7: a weight, an alpha, an accumulator or a lone operand not below p; a signed number outside
-    /// the range.
+    /// 7: a weight, an alpha, an accumulator, a lone operand or a folded value not below p; a
+    /// signed number outside the range.
     NotBelowP = 7,
     /// 8: the judge's flags not plain.
     FlagsNotPlain = 8,
+    /// 9: a consumer's fold that would pass a count of 4,294,967,295.
+    FoldCount = 9,
 }
 
 impl Refusal {
     /// Every refusal, in the order of the numbers.
-    pub const ALL: [Self; 8] = [
+    pub const ALL: [Self; 9] = [
         Self::RowLength,
         Self::MaskCount,
         Self::ValueBuffer,
@@ -39,9 +41,10 @@ impl Refusal {
         Self::RowContents,
         Self::NotBelowP,
         Self::FlagsNotPlain,
+        Self::FoldCount,
     ];
 
-    /// The number, 1 to 8.
+    /// The number, 1 to 9.
     pub fn number(self) -> u64 {
         self as u64
     }
@@ -53,7 +56,7 @@ impl Refusal {
 
     /// What an answer with this number is: accepted with `answer`, or refused.
     ///
-    /// The library's contract has no other numbers than 0 to 8.
+    /// The library's contract has no other numbers than 0 to 9.
     pub(crate) fn or<T>(number: u64, answer: T) -> Result<T, Self> {
         if number == 0 {
             return Ok(answer);
@@ -77,6 +80,7 @@ impl fmt::Display for Refusal {
                  a signed number outside the range"
             }
             Self::FlagsNotPlain => "judge: flags not plain",
+            Self::FoldCount => "consumer: a fold that would pass a count of 4,294,967,295",
         })
     }
 }

@@ -1,5 +1,6 @@
 //! The worked pairs of document 01, and each refusal once.
 
+use felmugo::flat::FelmugoConsumer;
 use felmugo::*;
 
 /// The value 1 of column `column` in a row of zeros.
@@ -122,5 +123,132 @@ fn each_refusal_has_its_number() {
         assert_eq!(Refusal::from_number(i as u64 + 1), Some(refusal));
     }
     assert_eq!(Refusal::from_number(0), None);
-    assert_eq!(Refusal::from_number(9), None);
+    assert_eq!(Refusal::from_number(10), None);
+}
+
+/// A consumer of one alpha, whose weights differ, by which so many values were folded.
+fn counted(folded: u64) -> ConstraintConsumer {
+    let made = ConstraintConsumer::new(&[2], &[5], 3, 11, 13);
+    let record = made.expect("all are below p").into();
+    FelmugoConsumer { folded, ..record }.into()
+}
+
+/// The accumulator of a consumer of one alpha.
+fn acc(consumer: &ConstraintConsumer) -> u64 {
+    let mut out = [0];
+    assert_eq!(consumer.accumulators(&mut out), Ok(()));
+    out[0]
+}
+
+#[test]
+fn a_consumer_folds_the_zero_pair_as_worked_out() {
+    let row = [0; ROW];
+    let mut consumer = ConstraintConsumer::new(&[0, 1, 2], &[0; 3], 0, 1, 0).expect("canonical");
+    assert_eq!((consumer.count(), consumer.folded()), (3, 0));
+    assert_eq!(consumer.pair(&masks(), &row, &row), Ok(()));
+    let mut accs = [7; 3];
+    assert_eq!(consumer.accumulators(&mut accs), Ok(()));
+    assert_eq!(accs, [0, 0, 18446673700603314177]);
+    assert_eq!((consumer.count(), consumer.folded()), (3, 226));
+}
+
+#[test]
+fn each_kind_of_value_has_its_weight() {
+    let mut consumer = counted(0);
+    assert_eq!(consumer.constraint(7), Ok(()));
+    assert_eq!(acc(&consumer), 5 * 2 + 7);
+    assert_eq!(consumer.constraint_transition(7), Ok(()));
+    assert_eq!(acc(&consumer), 17 * 2 + 7 * 3);
+    assert_eq!(consumer.constraint_first_row(7), Ok(()));
+    assert_eq!(acc(&consumer), 55 * 2 + 7 * 11);
+    assert_eq!(consumer.constraint_last_row(7), Ok(()));
+    assert_eq!(acc(&consumer), 187 * 2 + 7 * 13);
+    assert_eq!(consumer.folded(), 4);
+}
+
+#[test]
+fn a_stored_record_goes_on_where_it_was() {
+    let mut consumer = counted(0);
+    assert_eq!(consumer.constraint(7), Ok(()));
+    let record = FelmugoConsumer::from(consumer.clone());
+    let due = FelmugoConsumer {
+        alphas: [2, 0, 0, 0, 0, 0, 0, 0],
+        constraint_accs: [17, 0, 0, 0, 0, 0, 0, 0],
+        count: 1,
+        z_last: 3,
+        lagrange_basis_first: 11,
+        lagrange_basis_last: 13,
+        folded: 1,
+    };
+    assert_eq!(record, due);
+    let mut again = ConstraintConsumer::from(record);
+    assert_eq!(
+        again.constraint_last_row(1),
+        consumer.constraint_last_row(1)
+    );
+    assert_eq!(again, consumer);
+}
+
+#[test]
+fn a_count_of_4294967295_is_reached_and_not_passed() {
+    let row = [0; ROW];
+    let mut consumer = counted(MAX_FOLDED - 1);
+    assert_eq!(consumer.constraint_last_row(1), Ok(()));
+    assert_eq!(consumer.folded(), MAX_FOLDED);
+    for folded in [MAX_FOLDED, MAX_FOLDED + 1, u64::MAX] {
+        let mut consumer = counted(folded);
+        let before = consumer.clone();
+        assert_eq!(consumer.constraint(1), Err(Refusal::FoldCount));
+        assert_eq!(consumer.constraint_transition(1), Err(Refusal::FoldCount));
+        assert_eq!(consumer.constraint_first_row(1), Err(Refusal::FoldCount));
+        assert_eq!(consumer.constraint_last_row(1), Err(Refusal::FoldCount));
+        assert_eq!(consumer, before);
+        assert_eq!(acc(&consumer), 5);
+    }
+    let mut consumer = counted(MAX_FOLDED - VALUES as u64);
+    assert_eq!(consumer.pair(&masks(), &row, &row), Ok(()));
+    assert_eq!(consumer.folded(), MAX_FOLDED);
+    let mut consumer = counted(MAX_FOLDED - VALUES as u64 + 1);
+    let before = consumer.clone();
+    let pair = consumer.pair(&masks(), &row, &row);
+    assert_eq!((pair, consumer), (Err(Refusal::FoldCount), before));
+}
+
+#[test]
+fn a_consumer_refuses_in_order() {
+    let (row, masks) = ([0; ROW], masks());
+    let new = |accs: &[u64], z_last| ConstraintConsumer::new(&[2], accs, z_last, 0, 0);
+    assert_eq!(new(&[], P), Err(Refusal::AlphaCount));
+    assert_eq!(new(&[0], P), Err(Refusal::NotBelowP));
+    let mut out = [7; 2];
+    assert_eq!(counted(0).accumulators(&mut out), Err(Refusal::AlphaCount));
+    assert_eq!(out, [7; 2]);
+    assert_eq!(counted(u64::MAX).constraint(P), Err(Refusal::NotBelowP));
+
+    // A record as no call leaves it, of which everything is refused that can be.
+    let record = FelmugoConsumer {
+        count: 9,
+        z_last: P,
+        folded: u64::MAX,
+        ..counted(0).into()
+    };
+    let pair = |record: FelmugoConsumer, masks: &[u64], lv: &[u64]| {
+        let mut consumer = ConstraintConsumer::from(record);
+        let answer = consumer.pair(masks, lv, &row);
+        assert_eq!(FelmugoConsumer::from(consumer), record);
+        answer
+    };
+    assert_eq!(pair(record, &[], &[]), Err(Refusal::RowLength));
+    assert_eq!(pair(record, &[], &row), Err(Refusal::MaskCount));
+    let alike = [1; MASKS];
+    assert_eq!(pair(record, &alike, &row), Err(Refusal::AlphaCount));
+    let record = FelmugoConsumer { count: 1, ..record };
+    assert_eq!(pair(record, &alike, &[P; ROW]), Err(Refusal::MaskContents));
+    assert_eq!(pair(record, &masks, &[P; ROW]), Err(Refusal::RowContents));
+    assert_eq!(pair(record, &masks, &row), Err(Refusal::NotBelowP));
+    let record = FelmugoConsumer {
+        z_last: 0,
+        ..record
+    };
+    assert_eq!(pair(record, &masks, &row), Err(Refusal::FoldCount));
 }

@@ -2,6 +2,7 @@
 
 use std::hint::black_box;
 
+use felmugo::ConstraintConsumer;
 use fields::{Plonky2Style, Residue};
 use olavm::{Masks, Pair, Reference, COLUMNS, VALUES};
 use pairs::{Class, Rng};
@@ -34,8 +35,8 @@ impl From<&Pair> for FieldPair {
     }
 }
 
-/// Prints the time for a pair with each number of alphas, of the Rust and of the entry, and the
-/// entries' times for its values and its verdict. All take turns.
+/// Prints the time for a pair with each number of alphas, of the Rust, of the entry and of a lent
+/// consumer, and the entries' times for its values and its verdict. All take turns.
 pub fn report(rust: Reference) {
     let mut rng = Rng::new(0);
     let drawn: Vec<Pair> = (0..PAIRS)
@@ -43,29 +44,30 @@ pub fn report(rust: Reference) {
         .collect();
     let pairs: Vec<FieldPair> = drawn.iter().map(FieldPair::from).collect();
     let alphas = ALPHAS.map(|count| (0..count).map(|_| rng.residue()).collect::<Vec<u64>>());
-    let of = |words: &Vec<u64>| -> Vec<Plonky2Style> {
-        let of = Plonky2Style::from_canonical_u64;
-        words.iter().copied().map(of).collect()
-    };
     let mut theirs = ALPHAS.map(|count| vec![Plonky2Style::ZERO; count]);
     let mut ours = ALPHAS.map(|count| vec![0; count]);
+    let mut consumers = alphas.each_ref().map(|alphas| consumer(alphas));
 
     let mut contestants: Vec<Work> = Vec::new();
-    for (alphas, accs) in alphas.iter().map(of).zip(&mut theirs) {
-        let pairs = &pairs;
+    for (alphas, accs) in alphas.iter().zip(&mut theirs) {
+        let (pairs, alphas) = (&pairs, elements(alphas));
         contestants.push(Box::new(move || by_rust(rust, pairs, &alphas, accs)));
     }
     for (alphas, accs) in alphas.iter().zip(&mut ours) {
         let drawn = &drawn;
         contestants.push(Box::new(move || by_entry(drawn, alphas, accs)));
     }
+    for consumer in &mut consumers {
+        let drawn = &drawn;
+        contestants.push(Box::new(move || by_consumer(drawn, consumer)));
+    }
     contestants.push(Box::new(|| values(&drawn)));
     contestants.push(Box::new(|| judged(&drawn)));
     let least = clock::least(clock::ROUNDS, &mut contestants);
     drop(contestants);
-    let canonical: [Vec<u64>; 3] =
-        theirs.map(|accs| accs.into_iter().map(Residue::canonical).collect());
-    assert_eq!(ours, canonical, "the folds differ");
+    let due = theirs.map(|accs| accs.into_iter().map(Residue::canonical).collect::<Vec<_>>());
+    assert_eq!(ours, due, "the folds differ");
+    assert_eq!(consumers.map(held), due, "the consumers' folds differ");
     print(&least.iter().map(|ns| ns / PAIRS as f64).collect::<Vec<_>>());
 }
 
@@ -74,10 +76,16 @@ fn print(ns: &[f64]) {
     for (i, count) in ALPHAS.into_iter().enumerate() {
         let name = format!("folded, alphas: {count}");
         table::line(&name, ns[i], ns[ALPHAS.len() + i]);
+        table::line("  into a consumer", ns[i], ns[2 * ALPHAS.len() + i]);
     }
     println!("against the Rust's fold with one alpha:");
-    table::line("values", ns[0], ns[2 * ALPHAS.len()]);
-    table::line("judged", ns[0], ns[2 * ALPHAS.len() + 1]);
+    table::line("values", ns[0], ns[3 * ALPHAS.len()]);
+    table::line("judged", ns[0], ns[3 * ALPHAS.len() + 1]);
+}
+
+fn elements(words: &[u64]) -> Vec<Plonky2Style> {
+    let of = Plonky2Style::from_canonical_u64;
+    words.iter().copied().map(of).collect()
 }
 
 fn by_rust(
@@ -99,6 +107,27 @@ fn by_entry(drawn: &[Pair], alphas: &[u64], accs: &mut [u64]) {
         felmugo::pair_fold(&pair.masks, &pair.lv, &pair.nv, 1, 1, alphas, accs)
             .expect("a drawn pair is accepted");
     }
+}
+
+/// A consumer of the weights of the other folds, from 0.
+fn consumer(alphas: &[u64]) -> ConstraintConsumer {
+    ConstraintConsumer::new(alphas, &vec![0; alphas.len()], 1, 1, 0).expect("all are below p")
+}
+
+fn by_consumer(drawn: &[Pair], consumer: &mut ConstraintConsumer) {
+    for pair in drawn {
+        consumer
+            .pair(&pair.masks, &pair.lv, &pair.nv)
+            .expect("a drawn pair is accepted, and the rounds are few");
+    }
+}
+
+/// What a consumer's accumulators are at the end.
+fn held(consumer: ConstraintConsumer) -> Vec<u64> {
+    let mut accs = vec![0; consumer.count()];
+    let handed = consumer.accumulators(&mut accs);
+    handed.expect("a buffer of the count");
+    accs
 }
 
 fn values(drawn: &[Pair]) {

@@ -16,6 +16,8 @@ pub struct Amounts {
     pub rounds: u64,
     /// Pairs of rows, for values, for folds and for verdicts each.
     pub pairs: u64,
+    /// Consumers, each with what is yielded to it.
+    pub consumers: u64,
     /// Runs.
     pub runs: u64,
     /// The most rows of such a run.
@@ -51,6 +53,8 @@ impl<'a> Comparison<'a> {
         comparison.values(seed, amounts.pairs);
         comparison.fold_refusals(seed, amounts.rounds);
         comparison.folds(seed, amounts.pairs);
+        comparison.consumer_refusals(seed, amounts.rounds);
+        comparison.consumers(seed, amounts.consumers);
         comparison.verdicts(seed, amounts.pairs);
         comparison.report_refusals(seed, amounts.rounds);
         comparison.reports(seed, amounts.runs, amounts.rows);

@@ -61,7 +61,8 @@ impl Inputs {
         }
     }
 
-    fn spoil_one(&mut self, rng: &mut Rng, number: u64) {
+    /// Makes the condition of one number hold.
+    pub(crate) fn spoil_one(&mut self, rng: &mut Rng, number: u64) {
         let not_canonical = not_canonical(rng);
         let row = match rng.flip() {
             true => &mut self.lv,

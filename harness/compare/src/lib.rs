@@ -2,6 +2,8 @@
 
 mod calls;
 mod comparison;
+mod consumer_edges;
+mod consumers;
 mod entries;
 mod faults;
 mod folds;
@@ -15,6 +17,7 @@ mod signed;
 mod values;
 
 pub use comparison::{Amounts, Comparison};
-pub use entries::{Call, Entries};
+pub use entries::{Call, Entries, Rows, Yielded};
+pub use felmugo::flat::{FelmugoConsumer, FelmugoOutcome};
 pub use felmugo::flat::{FelmugoReport, FelmugoResidue, FelmugoSigned, FelmugoVerdict};
 pub use linked::Linked;

@@ -1,8 +1,10 @@
 //! The exported functions of the linked library.
 
-use felmugo::flat::{self, FelmugoReport, FelmugoResidue, FelmugoSigned, FelmugoVerdict};
+use felmugo::flat::{self, FelmugoConsumer, FelmugoOutcome};
+use felmugo::flat::{FelmugoReport, FelmugoResidue, FelmugoSigned, FelmugoVerdict};
+use olavm::Form;
 
-use crate::{Call, Entries};
+use crate::{Call, Entries, Rows, Yielded};
 
 /// The linked library.
 pub struct Linked;
@@ -51,5 +53,35 @@ impl Entries for Linked {
 
     fn run_report(&self, run: &[u64], masks: &[u64]) -> FelmugoReport {
         flat::run_report(run, masks)
+    }
+
+    fn consumer_new(&self, alphas: &[u64], accs: &[u64], weights: [u64; 3]) -> FelmugoOutcome {
+        let [z_last, lagrange_basis_first, lagrange_basis_last] = weights;
+        flat::consumer_new(
+            alphas,
+            accs,
+            z_last,
+            lagrange_basis_first,
+            lagrange_basis_last,
+        )
+    }
+
+    fn consumer_fold(&self, consumer: &mut FelmugoConsumer, yielded: Yielded) -> u64 {
+        let (form, value) = match yielded {
+            Yielded::Value(form, value) => (form, value),
+            Yielded::Pair(Rows { masks, lv, nv }) => {
+                return flat::consumer_pair(consumer, masks, lv, nv)
+            }
+        };
+        match form {
+            Form::Plain => flat::consumer_constraint(consumer, value),
+            Form::Transition => flat::consumer_constraint_transition(consumer, value),
+            Form::FirstRow => flat::consumer_constraint_first_row(consumer, value),
+            Form::LastRow => flat::consumer_constraint_last_row(consumer, value),
+        }
+    }
+
+    fn consumer_accumulators(&self, consumer: &FelmugoConsumer, out: &mut [u64]) -> u64 {
+        flat::consumer_accumulators(consumer, out)
     }
 }

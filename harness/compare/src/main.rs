@@ -12,6 +12,7 @@ const SHORT: Amounts = Amounts {
     signed: 1_000_000,
     rounds: 50,
     pairs: 200_000,
+    consumers: 20_000,
     runs: 1_000,
     rows: 2_000,
     limits: true,
@@ -31,8 +32,8 @@ fn main() -> ExitCode {
     };
 
     println!(
-        "seed {seed}, {} pairs, {} runs",
-        amounts.pairs, amounts.runs
+        "seed {seed}, {} pairs, {} consumers, {} runs",
+        amounts.pairs, amounts.consumers, amounts.runs
     );
     let tally = Comparison::everything(&Linked, rust, seed, amounts);
     println!("{tally}");
@@ -40,10 +41,11 @@ fn main() -> ExitCode {
     tally.status()
 }
 
-/// So many pairs, and a run for each 200 of them.
+/// So many pairs, a consumer for each 10 of them, and a run for each 200.
 fn long(pairs: u64) -> Amounts {
     Amounts {
         pairs,
+        consumers: pairs.div_ceil(10),
         runs: pairs.div_ceil(200),
         ..SHORT
     }

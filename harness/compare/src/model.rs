@@ -8,7 +8,10 @@ use pairs::masks::are_accepted;
 use pairs::{Run, MAX_ROWS};
 use plonky2::field::types::Field;
 
-use crate::{Call, FelmugoReport, FelmugoResidue, FelmugoSigned, FelmugoVerdict};
+use crate::{Call, FelmugoReport, FelmugoResidue, FelmugoSigned, FelmugoVerdict, Rows};
+
+mod consumer;
+pub use consumer::*;
 
 /// The values of a pair, or the number of the refusal.
 pub fn pair_values(rust: Reference, call: Call, buffer: usize) -> Result<Values, u64> {
@@ -124,41 +127,46 @@ pub fn unsigned(value: i64) -> FelmugoResidue {
 
 /// The number with which a call for the values of a pair is refused, or 0.
 pub fn values_refusal(call: Call, buffer: usize) -> u64 {
-    pair_refusal(call, &[(3, buffer < VALUES), (7, has_wrong_weight(call))])
+    let others = [(3, buffer < VALUES), (7, has_wrong_weight(call))];
+    pair_refusal(call.rows(), &others)
 }
 
 /// The number with which a call for the fold of a pair is refused, or 0.
 pub fn fold_refusal(call: Call, alphas: &[u64], accs: &[u64]) -> u64 {
     let are_counted = (1..=8).contains(&alphas.len()) && accs.len() == alphas.len();
     let has_wrong = has_wrong_weight(call) || is_not_canonical(alphas) || is_not_canonical(accs);
-    pair_refusal(call, &[(4, !are_counted), (7, has_wrong)])
+    pair_refusal(call.rows(), &[(4, !are_counted), (7, has_wrong)])
 }
 
 /// The number with which a call of the judge is refused, or 0.
 pub fn judge_refusal(call: Call) -> u64 {
-    pair_refusal(call, &[(8, !has_plain_flags(call))])
+    pair_refusal(call.rows(), &[(8, !has_plain_flags(call))])
 }
 
 /// The number with which a call for the report on a run is refused, or 0.
 pub fn run_refusal(run: &[u64], masks: &[u64]) -> u64 {
     let rows = run.len() / COLUMNS;
     let are_whole = run.len().is_multiple_of(COLUMNS) && (1..=MAX_ROWS).contains(&rows);
-    lowest(&[(1, !are_whole), (6, is_not_canonical(run))], masks)
+    masks_refusal(masks, &[(1, !are_whole), (6, is_not_canonical(run))])
 }
 
 /// The number with which a pair is refused, for what all calls refuse or for other conditions.
-fn pair_refusal(call: Call, others: &[(u64, bool)]) -> u64 {
-    let Call { masks, lv, nv, .. } = call;
+fn pair_refusal(Rows { masks, lv, nv }: Rows, others: &[(u64, bool)]) -> u64 {
     let has_wrong_row = lv.len() != COLUMNS || nv.len() != COLUMNS;
     let has_wrong_content = is_not_canonical(lv) || is_not_canonical(nv);
     let rows = [(1, has_wrong_row), (6, has_wrong_content)];
-    lowest(&[&rows, others].concat(), masks)
+    masks_refusal(masks, &[&rows, others].concat())
 }
 
-/// The lowest number whose condition holds, those of the masks included, or 0.
-fn lowest(conditions: &[(u64, bool)], masks: &[u64]) -> u64 {
+/// The number with which masks are refused, or for other conditions.
+fn masks_refusal(masks: &[u64], others: &[(u64, bool)]) -> u64 {
     let masks = [(2, masks.len() != MASKS), (5, !are_accepted(masks))];
-    let holding = conditions.iter().chain(&masks).filter(|(_, holds)| *holds);
+    lowest(&[&masks, others].concat())
+}
+
+/// The lowest number whose condition holds, or 0.
+fn lowest(conditions: &[(u64, bool)]) -> u64 {
+    let holding = conditions.iter().filter(|(_, holds)| *holds);
     holding.map(|(number, _)| *number).min().unwrap_or(0)
 }
 

@@ -6,12 +6,14 @@ use core::vm::opcodes::supply_masks;
 use fields::{Plain, Residue};
 use plonky2::field::{packed::PackedField, types::Field};
 
+use crate::consumer::call;
+pub use crate::consumer::Consumer;
 use crate::cpu::{columns::get_cpu_col_name_map, cpu_stark::CpuStark};
 use crate::recording::{recorded, Recording};
 use crate::stark::{
     constraint_consumer::ConstraintConsumer, stark::Stark, vars::StarkEvaluationVars,
 };
-use crate::{Masks, Pair, Values, COLUMNS};
+use crate::{Form, Masks, Pair, Values, COLUMNS};
 
 /// The listed Rust, `eval_packed_generic` of `CpuStark` with one lane over the base field.
 #[derive(Clone, Copy, Debug)]
@@ -76,8 +78,8 @@ impl Reference {
         consumer.accumulators()
     }
 
-    /// What each of the consumer's calls makes of the accumulators, given one value: `constraint`,
-    /// `constraint_transition`, `constraint_first_row` and `constraint_last_row`.
+    /// What each of the consumer's calls makes of the accumulators, given one value, in the order
+    /// of the forms.
     pub fn consumer_calls<F: Field>(
         self,
         weights: [F; 3],
@@ -85,16 +87,10 @@ impl Reference {
         accs: &[F],
         value: F,
     ) -> [Vec<F>; 4] {
-        let calls = [
-            ConstraintConsumer::constraint,
-            ConstraintConsumer::constraint_transition,
-            ConstraintConsumer::constraint_first_row,
-            ConstraintConsumer::constraint_last_row,
-        ];
-        calls.map(|call| {
+        Form::ALL.map(|form| {
             let mut consumer = new_consumer(weights, alphas);
             consumer.constraint_accs.copy_from_slice(accs);
-            call(&mut consumer, value);
+            call(form)(&mut consumer, value);
             consumer.accumulators()
         })
     }
@@ -105,7 +101,7 @@ impl Reference {
     }
 }
 
-fn new_consumer<F: Field>(
+pub(crate) fn new_consumer<F: Field>(
     [z_last, lagrange_basis_first, lagrange_basis_last]: [F; 3],
     alphas: &[F],
 ) -> ConstraintConsumer<F> {
@@ -117,7 +113,7 @@ fn new_consumer<F: Field>(
     )
 }
 
-fn evaluate<F: Field, P: PackedField<Scalar = F>>(
+pub(crate) fn evaluate<F: Field, P: PackedField<Scalar = F>>(
     masks: &Masks,
     [lv, nv]: [&[P; COLUMNS]; 2],
     consumer: &mut ConstraintConsumer<P>,

@@ -3,7 +3,7 @@
 use fields::Residue;
 use plonky2::field::types::Field;
 
-use crate::{Masks, Pair, Values, COLUMNS};
+use crate::{Form, Masks, Pair, Row, Values, COLUMNS};
 
 /// The listed Rust; without its source no value of this type exists.
 #[derive(Clone, Copy, Debug)]
@@ -54,7 +54,37 @@ impl Reference {
     }
 
     /// Never run.
+    pub fn consumer(self, _weights: [u64; 3], _alphas: &[u64], _accs: &[u64]) -> Consumer {
+        match self {}
+    }
+
+    /// Never run.
     pub fn column_names(self) -> Vec<String> {
         match self {}
+    }
+}
+
+/// The listed consumer; without its source no value of this type exists.
+pub struct Consumer(Reference);
+
+impl Consumer {
+    /// Never run.
+    pub fn yield_value(&mut self, _form: Form, _value: u64) {
+        match self.0 {}
+    }
+
+    /// Never run.
+    pub fn yield_pair(&mut self, _masks: &Masks, _lv: &Row, _nv: &Row) {
+        match self.0 {}
+    }
+
+    /// Never run.
+    pub fn folded(&self) -> Vec<u64> {
+        match self.0 {}
+    }
+
+    /// Never run.
+    pub fn accumulators(self) -> Vec<u64> {
+        match self.0 {}
     }
 }

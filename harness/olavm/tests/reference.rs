@@ -1,7 +1,7 @@
 //! The answers of the listed Rust, by the recording lane and by ordinary ones.
 
 use fields::{Plain, Plonky2Style, Residue, P};
-use olavm::{Pair, Reference, COLUMNS, MASKS, VALUES};
+use olavm::{Form, Pair, Reference, COLUMNS, MASKS, VALUES};
 use pairs::{masks, Class, Rng};
 use plonky2::field::types::Field;
 
@@ -107,4 +107,37 @@ fn both_fields_give_the_same_answers() {
             rust.fold::<Plonky2Style>(&pair, &alphas, &accs)
         );
     }
+}
+
+#[test]
+fn a_consumer_takes_a_pair_as_its_values_one_by_one() {
+    let Some(rust) = Reference::find() else {
+        return;
+    };
+    for (pair, alphas, accs) in inputs() {
+        let weights = [pair.z_last, pair.lagrange_basis_first, 2];
+        let mut whole = rust.consumer(weights, &alphas, &accs);
+        whole.yield_pair(&pair.masks, &pair.lv, &pair.nv);
+        let mut one_by_one = rust.consumer(weights, &alphas, &accs);
+        for value in rust.values(&pair) {
+            one_by_one.yield_value(Form::Plain, value);
+        }
+        let folded = rust.fold::<Plain>(&pair, &alphas, &accs);
+        assert_eq!(whole.folded(), folded);
+        assert_eq!(whole.accumulators(), folded);
+        assert_eq!(one_by_one.accumulators(), folded);
+    }
+}
+
+#[test]
+fn a_consumer_applies_the_weight_of_the_form() {
+    let Some(rust) = Reference::find() else {
+        return;
+    };
+    let folded = Form::ALL.map(|form| {
+        let mut consumer = rust.consumer([3, 11, 13], &[2], &[5]);
+        consumer.yield_value(form, 7);
+        consumer.accumulators()
+    });
+    assert_eq!(folded, [7, 21, 77, 91].map(|weighted| [10 + weighted]));
 }

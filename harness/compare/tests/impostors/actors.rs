@@ -1,6 +1,7 @@
 //! Who answers as it should, and who does not.
 
-use compare::{model, Amounts, Call, Comparison, Entries};
+use compare::{model, Amounts, Call, Comparison, Entries, Yielded};
+use compare::{FelmugoConsumer, FelmugoOutcome};
 use compare::{FelmugoReport, FelmugoResidue, FelmugoSigned, FelmugoVerdict};
 use fields::Plain;
 use olavm::{Reference, VALUES};
@@ -12,6 +13,7 @@ const AMOUNTS: Amounts = Amounts {
     signed: 100,
     rounds: 1,
     pairs: 1000,
+    consumers: 200,
     runs: 50,
     rows: 24,
     limits: false,
@@ -68,6 +70,26 @@ impl Entries for Faithful {
     fn run_report(&self, run: &[u64], masks: &[u64]) -> FelmugoReport {
         model::run_report::<Plain>(self.0, run, masks)
     }
+
+    fn consumer_new(&self, alphas: &[u64], accs: &[u64], weights: [u64; 3]) -> FelmugoOutcome {
+        model::consumer_new(alphas, accs, weights)
+    }
+
+    fn consumer_fold(&self, consumer: &mut FelmugoConsumer, yielded: Yielded) -> u64 {
+        let (number, left) = model::consumer_fold(self.0, *consumer, yielded);
+        *consumer = left;
+        number
+    }
+
+    fn consumer_accumulators(&self, consumer: &FelmugoConsumer, out: &mut [u64]) -> u64 {
+        match model::consumer_accumulators(consumer, out.len()) {
+            Ok(accs) => {
+                out.copy_from_slice(&accs);
+                0
+            }
+            Err(number) => number,
+        }
+    }
 }
 
 /// Other answers, which may ask the faithful.
@@ -78,6 +100,9 @@ pub type Values<'a> = dyn Fn(&Faithful, Call, &mut [u64]) -> u64 + 'a;
 pub type Fold<'a> = dyn Fn(&Faithful, Call, &[u64], &mut [u64]) -> u64 + 'a;
 pub type Judge<'a> = dyn Fn(&Faithful, Call) -> FelmugoVerdict + 'a;
 pub type Report<'a> = dyn Fn(&Faithful, &[u64], &[u64]) -> FelmugoReport + 'a;
+pub type Make<'a> = dyn Fn(&Faithful, &[u64], &[u64], [u64; 3]) -> FelmugoOutcome + 'a;
+pub type Consume<'a> = dyn Fn(&Faithful, &mut FelmugoConsumer, Yielded) -> u64 + 'a;
+pub type HandOver<'a> = dyn Fn(&Faithful, &FelmugoConsumer, &mut [u64]) -> u64 + 'a;
 
 /// Answers as it should but for what it was given an answer to.
 pub struct Impostor<'a> {
@@ -89,6 +114,9 @@ pub struct Impostor<'a> {
     pub fold: Option<&'a Fold<'a>>,
     pub judge: Option<&'a Judge<'a>>,
     pub report: Option<&'a Report<'a>>,
+    pub make: Option<&'a Make<'a>>,
+    pub consume: Option<&'a Consume<'a>>,
+    pub hand_over: Option<&'a HandOver<'a>>,
 }
 
 impl Impostor<'_> {
@@ -102,6 +130,9 @@ impl Impostor<'_> {
             fold: None,
             judge: None,
             report: None,
+            make: None,
+            consume: None,
+            hand_over: None,
         }
     }
 }
@@ -161,6 +192,27 @@ impl Entries for Impostor<'_> {
         match self.report {
             Some(answer) => answer(&self.faithful, run, masks),
             None => self.faithful.run_report(run, masks),
+        }
+    }
+
+    fn consumer_new(&self, alphas: &[u64], accs: &[u64], weights: [u64; 3]) -> FelmugoOutcome {
+        match self.make {
+            Some(answer) => answer(&self.faithful, alphas, accs, weights),
+            None => self.faithful.consumer_new(alphas, accs, weights),
+        }
+    }
+
+    fn consumer_fold(&self, consumer: &mut FelmugoConsumer, yielded: Yielded) -> u64 {
+        match self.consume {
+            Some(answer) => answer(&self.faithful, consumer, yielded),
+            None => self.faithful.consumer_fold(consumer, yielded),
+        }
+    }
+
+    fn consumer_accumulators(&self, consumer: &FelmugoConsumer, out: &mut [u64]) -> u64 {
+        match self.hand_over {
+            Some(answer) => answer(&self.faithful, consumer, out),
+            None => self.faithful.consumer_accumulators(consumer, out),
         }
     }
 }

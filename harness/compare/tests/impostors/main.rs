@@ -1,6 +1,7 @@
 //! The comparison itself: it passes what answers as it should, and finds who does not.
 
 mod actors;
+mod consumers;
 mod folds;
 mod reports;
 mod residues;
