@@ -29,7 +29,8 @@ module _ (c : ConstraintConsumer) where
   pub call-folds : (call : Call) → left c (answer c call) ≡ with_values c (folded_by (answer c call) (weighted_values c call))
   unfolding taken pair_taken
   call-folds (value k v) = folded-unless (taken_refusal c v) _ (weighted c k v ∷ []) (value-is c (weighted c k v))
-  call-folds (pair masks lv nv) = folded-unless (pair_taken_refusal masks lv nv c) _ (pair_values masks lv nv c.z_last c.lagrange_basis_first) refl
+  call-folds (pair masks lv nv) =
+      folded-unless (pair_taken_refusal masks lv nv c) _ (pair_values masks lv nv c.z_last c.lagrange_basis_first) refl
 
 -- the record as it stands has folded the list
 pub folds-listed : (h : History) → now h ≡ with_values (start h) (listed h)
@@ -61,7 +62,8 @@ start-made : (h : History) → Made (start h)
 unfolding made made_refusal
 start-made (new alphas accs z f l) =
     by_unless refused (Ok (filled alphas accs z f l)) (λ (r : Result ConstraintConsumer Refusal). Made (left empty r)) _
-    (λ e. filled-made alphas accs z f l (as-many _ _ (clear (alpha_count (length alphas) (length accs) ∷ not_below_p ((z ∷ f ∷ l ∷ []) ++ alphas ++ accs) ∷ []) tt e).0))
+    (λ e. filled-made alphas accs z f l (as-many _ _
+    (clear (alpha_count (length alphas) (length accs) ∷ not_below_p ((z ∷ f ∷ l ∷ []) ++ alphas ++ accs) ∷ []) tt e).0))
     (filled-made [] [] 0 0 0 refl)
 start-made (h then call) = start-made h
 

@@ -31,7 +31,8 @@ unfolding fold
 fold-below alpha a [] h = h
 fold-below alpha a (v ∷ vs) h = fold-below alpha (add_p (mul_p a alpha) v) vs (add_p-lt (mul_p a alpha) v)
 
-folds-canonical : (n : ℕ) (alphas accs vs : List ℕ) → canonical (take n accs) ≡ true → canonical (take n (folds n alphas accs vs)) ≡ true
+folds-canonical : (n : ℕ) (alphas accs vs : List ℕ) → canonical (take n accs) ≡ true →
+    canonical (take n (folds n alphas accs vs)) ≡ true
 unfolding folds canonical
 folds-canonical zero alphas accs vs e = refl
 folds-canonical (suc n) [] accs vs e = e
@@ -74,7 +75,8 @@ module _ (c : ConstraintConsumer) (e : Ready c) where
   pub ready_still : (vs : List ℕ) → Ready (with_values c vs)
   ready_still vs =
       let numbers : canonical (held c) ≡ true = not-false (canonical (held c)) ready.1.0 in
-      let a = both_true (canonical (weights c) && canonical (alphas_in_use c)) (canonical (accs_in_use c)) (sym (parts c) ∙ numbers) in
+      let a =
+      both_true (canonical (weights c) && canonical (alphas_in_use c)) (canonical (accs_in_use c)) (sym (parts c) ∙ numbers) in
       let accs = folds-canonical c.count c.alphas c.constraint_accs vs a.1 in
       behind (own (with_values c vs) c.count) [] (ready.0, (rw (parts (with_values c vs), a.0, accs) refl, tt))
 
@@ -82,8 +84,8 @@ module _ (c : ConstraintConsumer) (e : Ready c) where
 abbrev pub values_of : List Yielded → List ℕ
 values_of ys = map (λ (y : Yielded). y.value) ys
 
-pub taken_all_lem : (c : ConstraintConsumer) → Ready c → (ys : List Yielded) → canonical (values_of ys) ≡ true → c.folded + length ys ≤ 4294967295 →
-    taken_all c ys ≡ with_values c (weighted_all c ys)
+pub taken_all_lem : (c : ConstraintConsumer) → Ready c → (ys : List Yielded) → canonical (values_of ys) ≡ true →
+    c.folded + length ys ≤ 4294967295 → taken_all c ys ≡ with_values c (weighted_all c ys)
 unfolding taken_all canonical
 taken_all_lem c e [] h room = values-none c
 taken_all_lem c e (y ∷ ys) h room =

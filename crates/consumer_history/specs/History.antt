@@ -1,6 +1,6 @@
--- "In a record made new with count 0 and altered by these calls alone (so for later states too), the count equals the length of the list of
--- values folded, each with its weight already applied, and every accumulator is the fold of that list from its starting value." (document 02,
--- 2/12)
+-- "In a record made new with count 0 and altered by these calls alone (so for later states too), the count equals the
+-- length of the list of values folded, each with its weight already applied, and every accumulator is the fold of that
+-- list from its starting value." (document 02, 2/12)
 use Rattle.std.specs.Prelude.{◌≡◌, List, [], ◌∷◌, ◌++◌, ℕ, ◌<◌, ◌≤◌, length, get_or, Result, Ok, Err}
 use Rattle.algebra.specs.Fold.{fold}
 use Rattle.refusals.specs.declared.Refusal.{Refusal}
@@ -26,7 +26,8 @@ abbrev pub weighted_values : ConstraintConsumer → Call → List ℕ
 weighted_values c (value k v) = weighted c k v ∷ []
 weighted_values c (pair masks lv nv) = pair_values masks lv nv c.z_last c.lagrange_basis_first
 
--- "made new .. and altered by these calls alone": alphas, accumulators and the three weights, and then calls, taken or refused
+-- "made new .. and altered by these calls alone": alphas, accumulators and the three weights, and then calls, taken or
+-- refused
 infixl 20 ◌then◌
 pub data History : Type 0 where
   new : List ℕ → List ℕ → ℕ → ℕ → ℕ → History
@@ -55,7 +56,8 @@ pub record Promise (start now : ConstraintConsumer) (list : List ℕ) : Type 0 w
   -- "the count equals the length of the list"
   pub count : now.folded ≡ length list
   -- "every accumulator is the fold of that list from its starting value", under its alpha
-  pub fold_of : (i : ℕ) → i < start.count → get_or now.constraint_accs i 0 ≡ fold residues (get_or start.alphas i 0) (get_or start.constraint_accs i 0) list
+  pub fold_of : (i : ℕ) → i < start.count →
+      get_or now.constraint_accs i 0 ≡ fold residues (get_or start.alphas i 0) (get_or start.constraint_accs i 0) list
   -- the places past the count of places are as they were lent, and so is all else
   pub past : (i : ℕ) → start.count ≤ i → get_or now.constraint_accs i 0 ≡ get_or start.constraint_accs i 0
   pub alphas : now.alphas ≡ start.alphas

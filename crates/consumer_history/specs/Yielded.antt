@@ -22,7 +22,8 @@ taken_all c (y ∷ ys) = taken_all (left c (taken y.kind c y.value)) ys
 abbrev pub weighted_all : ConstraintConsumer → List Yielded → List ℕ
 weighted_all c ys = map (λ (y : Yielded). weighted c y.kind y.value) ys
 
--- constraints of the table, each yielded to the call of its kind: "none of the 226 uses" the last-row form (document 02, 2/12)
+-- constraints of the table, each yielded to the call of its kind: "none of the 226 uses" the last-row form (document
+-- 02, 2/12)
 abbrev pub call_of : Kind_of_table → Kind
 call_of plain = Plain
 call_of transition = Transition

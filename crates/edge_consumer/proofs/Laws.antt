@@ -1,4 +1,5 @@
--- The constraints of a pair, yielded by their kinds: what a consumer takes one after the other, and the kinds and bare values of the table.
+-- The constraints of a pair, yielded by their kinds: what a consumer takes one after the other, and the kinds and bare
+-- values of the table.
 use mathlib.Core.Path.{◌≡◌, refl, sym, ap, ap₂, ◌∙◌}
 use mathlib.Core.Logic.{◌⊎◌, inl, inr}
 use mathlib.Core.Bool.{Bool, true, ◌&&◌}
@@ -71,7 +72,7 @@ bare_table = refl
 times-one : (v : ℕ) → v < p → mul_p v 1 ≡ v
 times-one v h = mul_p_comm v 1 ∙ mul_p-one v ∙ mod-eq_of_lt h
 
-given : (c d : ConstraintConsumer) → ◌≡◌ {A = Result ConstraintConsumer Refusal} (Ok c) (Ok d) → c ≡ d
+pub given : (c d : ConstraintConsumer) → ◌≡◌ {A = Result ConstraintConsumer Refusal} (Ok c) (Ok d) → c ≡ d
 given c d e = ap of e
   where
     of : Result ConstraintConsumer Refusal → ConstraintConsumer

@@ -1,5 +1,6 @@
 // The 226 constraints of a pair of rows, yielded one after the other to a lent consumer, against the fold of
-// that pair. What each makes of an accumulator is printed, and the two are proved equal from the contracts.
+// that pair, and against a consumer that takes the pair at once. What each makes of an accumulator is printed, and the
+// three are proved equal from the contracts. Then the edges of the count of values.
 #![tactic(auto)]
 
 ghost use Rattle.std.specs.Prelude.{◌≡◌};
@@ -17,6 +18,7 @@ use table::NUM_VALUES;
 use table::columns::NUM_CPU_COLS;
 use table::masks::NUM_MASKS;
 
+mod counts;
 mod kinds;
 
 // A value to the call of its kind. A call that is turned back leaves the consumer as it was.
@@ -69,7 +71,26 @@ fn by_consumer(
     consumer.accumulators(accs)
 }
 
-// What the fold and what the consumer made of an accumulator.
+// What a consumer leaves of the accumulators that takes the pair at once.
+fn by_pair(
+    masks: &[u64],
+    lv: &[u64],
+    nv: &[u64],
+    z_last: u64,
+    lagrange_basis_first: u64,
+    alphas: &[u64],
+    accs: &mut [u64],
+) -> Result<(), Refusal>
+    requires { pair_fold_refusal masks.now lv.now nv.now z_last lagrange_basis_first alphas.now accs.old ≡ 0 }
+    ensures { accs.new ≡ pair_fold_accumulators masks.now lv.now nv.now z_last lagrange_basis_first
+        alphas.now accs.old }
+{
+    let consumer = ConstraintConsumer::new(alphas, accs, z_last, lagrange_basis_first, 1)?;
+    let consumer = consumer_pair::fold_pair(consumer, masks, lv, nv)?;
+    consumer.accumulators(accs)
+}
+
+// What the fold and what a consumer made of an accumulator.
 fn compare(rt: HostRuntime, words: &str, folded: u64, pushed: u64)
     requires { pushed ≡ folded }
 {
@@ -88,6 +109,7 @@ fn main(rt: HostRuntime) {
     let alphas = [0u64, 1, P - 2];
     let mut folded = [5u64, 6, P - 1];
     let mut pushed = [5u64, 6, P - 1];
+    let mut at_once = [5u64, 6, P - 1];
     let answer = pair_fold::pair_fold(&masks, &lv, &nv, 3, 2, &alphas, &mut folded);
     lines::answer(rt, "three alphas", answer);
     if answer.is_err() {
@@ -97,4 +119,15 @@ fn main(rt: HostRuntime) {
     compare(rt, "alpha 0 folds 5 to ", folded[0], pushed[0]);
     compare(rt, "alpha 1 folds 6 to ", folded[1], pushed[1]);
     compare(rt, "alpha p - 2 folds p - 1 to ", folded[2], pushed[2]);
+    let _ = by_pair(&masks, &lv, &nv, 3, 2, &alphas, &mut at_once);
+    compare(rt, "at once: alpha 0 folds 5 to ", folded[0], at_once[0]);
+    compare(rt, "at once: alpha 1 folds 6 to ", folded[1], at_once[1]);
+    compare(
+        rt,
+        "at once: alpha p - 2 folds p - 1 to ",
+        folded[2],
+        at_once[2],
+    );
+    counts::values(rt);
+    counts::pairs(rt, &masks, &lv, &nv);
 }

@@ -1,4 +1,5 @@
-// The consumer for C and Rust: made by value, then lent to each call that alters it. A refused call leaves it as it was.
+// The consumer for C and Rust: made by value, then lent to each call that alters it. A refused call leaves it as it
+// was.
 #![tactic(auto)]
 
 ghost use Rattle.std.specs.Prelude.{◌≡◌};

@@ -10,8 +10,8 @@ pub record Condition : Type 0 where
   pub number : ℕ
   pub holds : Bool
 
--- "The lowest number wins, and only these conditions refuse.": of conditions in rising order, the number of the first that holds, and
--- 0 where none does
+-- "The lowest number wins, and only these conditions refuse.": of conditions in rising order, the number of the first
+-- that holds, and 0 where none does
 abbrev pub lowest : List Condition → ℕ
 lowest [] = 0
 lowest (c ∷ cs) = cond c.holds c.number (lowest cs)
@@ -69,8 +69,8 @@ row_contents row = record { number = 6; holds = not (canonical row) }
 abbrev pub not_below_p : List ℕ → Condition
 not_below_p xs = record { number = 7; holds = not (canonical xs) }
 
--- "Signed and residue form map to each other without loss over that whole range. .. A signed number outside the range is refused with 7."
--- (document 02, 1/12): the range ends at 9223372034707292160, half of p - 1, and at its negative
+-- "Signed and residue form map to each other without loss over that whole range. .. A signed number outside the range
+-- is refused with 7." (document 02, 1/12): the range ends at 9223372034707292160, half of p - 1, and at its negative
 abbrev pub greatest : ℕ
 greatest = 9223372034707292160
 
@@ -81,8 +81,8 @@ not_in_range z = record { number = 7; holds = ltb greatest (nat_abs z) }
 abbrev pub flags_not_plain : Bool → Condition
 flags_not_plain plain = record { number = 8; holds = not plain }
 
--- "It refuses with 9 a fold that would pass a count of 4,294,967,295, checked after all others, with the record unaltered." (document 02,
--- 2/12): of so many values folded before, and so many more
+-- "It refuses with 9 a fold that would pass a count of 4,294,967,295, checked after all others, with the record
+-- unaltered." (document 02, 2/12): of so many values folded before, and so many more
 abbrev pub most_folded : ℕ
 most_folded = 4294967295
 

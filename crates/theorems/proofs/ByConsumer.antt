@@ -1,5 +1,5 @@
--- A pair that a consumer takes: what its accumulators are, and that it is the consumer that takes the 226 constraints one after the other, each
--- in the call of its kind. So is what the fold entry leaves of lent accumulators.
+-- A pair that a consumer takes: what its accumulators are, and that it is the consumer that takes the 226 constraints
+-- one after the other, each in the call of its kind. So is what the fold entry leaves of lent accumulators.
 use mathlib.Core.Path.{◌≡◌, refl, sym, ap, ap₂, subst, ◌∙◌}
 use mathlib.Core.Bool.{Bool, true, false, not, ◌&&◌, ◌||◌}
 use mathlib.Core.List.{List, [], ◌∷◌, ◌++◌}
@@ -106,7 +106,12 @@ module _ (masks lv nv : List ℕ) (c : ConstraintConsumer) (e : pair_taken_refus
   unfolding pair_values
   constraints_taken =
       sym (taken_all_lem c ready (yielded env table) (bare_values env env-canonical table bare_table)
-      (omega (arith, room, length-map {B = Yielded} table (λ (k : Entry). record { kind = call_of k.kind; value = eval residues env k.expr }), table-length))
+      (omega (
+        arith,
+        room,
+        table-length,
+        length-map {B = Yielded} table (λ (k : Entry). record { kind = call_of k.kind; value = eval residues env k.expr }),
+      ))
       ∙ ap (with_values c) (yielded_values masks lv nv c table))
 
   -- the fold entry is not turned back, called with what is in use, and leaves the accumulators in use
@@ -129,16 +134,19 @@ module _ (masks lv nv : List ℕ) (c : ConstraintConsumer) (e : pair_taken_refus
     without_last : not (canonical ((c.z_last ∷ c.lagrange_basis_first ∷ []) ++ alphas ++ accs)) ≡ false
     unfolding canonical
     without_last =
-        let k = both_true (ltb c.z_last p) (ltb c.lagrange_basis_first p && (ltb c.lagrange_basis_last p && canonical (alphas ++ accs))) numbers in
-        let l = both_true (ltb c.lagrange_basis_first p) (ltb c.lagrange_basis_last p && canonical (alphas ++ accs)) k.1 in
-        rw (k.0, l.0, (both_true (ltb c.lagrange_basis_last p) (canonical (alphas ++ accs)) l.1).1) refl
+        let last = ltb c.lagrange_basis_last p in
+        let used = canonical (alphas ++ accs) in
+        let k = both_true (ltb c.z_last p) (ltb c.lagrange_basis_first p && (last && used)) numbers in
+        let l = both_true (ltb c.lagrange_basis_first p) (last && used) k.1 in
+        rw (k.0, l.0, (both_true last used l.1).1) refl
 
     pub fold_clear : pair_fold_refusal masks lv nv c.z_last c.lagrange_basis_first alphas accs ≡ 0
     unfolding pair_fold_refusal
     fold_clear =
         let l = clears.1.1.1.1 in
         rw (alphas-used, accs-used)
-        (behind (sizes masks lv nv ++ counts ++ contents masks lv nv ++ (not_below_p ((c.z_last ∷ c.lagrange_basis_first ∷ []) ++ alphas ++ accs) ∷ [])) []
+        (behind (sizes masks lv nv ++ counts ++ contents masks lv nv
+        ++ (not_below_p ((c.z_last ∷ c.lagrange_basis_first ∷ []) ++ alphas ++ accs) ∷ [])) []
         (clears.0, (clears.1.0, (clears.1.1.0, (clears.1.1.1.0, (l.0, (l.1.0, (l.1.1.0, (without_last, tt)))))))))
 
     pub fold_left : take c.count (folds c.count c.alphas c.constraint_accs (pair_values masks lv nv c.z_last c.lagrange_basis_first))
@@ -163,12 +171,14 @@ pair_by_consumer masks lv nv c d m n h =
     record {
       folds = fold_clear masks lv nv c g.0 m n;
       accumulators = ap (λ (t : ConstraintConsumer). take t.count t.constraint_accs) (sym g.1) ∙ fold_left masks lv nv c g.0 m n;
-      count = ap (λ (t : ConstraintConsumer). t.folded) (sym g.1) ∙ ap (λ (k : ℕ). c.folded + k) (values_count masks lv nv c.z_last c.lagrange_basis_first);
+      count =
+          ap (λ (t : ConstraintConsumer). t.folded) (sym g.1)
+          ∙ ap (λ (k : ℕ). c.folded + k) (values_count masks lv nv c.z_last c.lagrange_basis_first);
       constraints = sym g.1 ∙ constraints_taken masks lv nv c g.0;
     }
 
--- and of a call of the fold entry that is not turned back: a consumer made of the same alphas, accumulators and weights;
--- lagrange_basis_last (l) is carried
+-- and of a call of the fold entry that is not turned back: a consumer made of the same alphas, accumulators and
+-- weights; lagrange_basis_last (l) is carried
 module _ (masks lv nv : List ℕ) (z f l : ℕ) (alphas accs : List ℕ) (e : pair_fold_refusal masks lv nv z f alphas accs ≡ 0) (l-below : l < p) where
   abbrev pub consumer : ConstraintConsumer
   consumer = filled alphas accs z f l
@@ -180,7 +190,14 @@ module _ (masks lv nv : List ℕ) (z f l : ℕ) (alphas accs : List ℕ) (e : pa
   unfolding canonical
   numbers_too =
       canonical-append ((z ∷ f ∷ l ∷ []) ++ alphas) accs
-      ∙ rw (canonical-append (z ∷ f ∷ l ∷ []) alphas, lt-ltb z p (z_below masks lv nv z f alphas accs e), lt-ltb f p (f_below masks lv nv z f alphas accs e), lt-ltb l p l-below, alphas-canonical masks lv nv z f alphas accs e) (accumulators-canonical masks lv nv z f alphas accs e)
+      ∙ rw (
+        canonical-append (z ∷ f ∷ l ∷ []) alphas,
+        lt-ltb z p (z_below masks lv nv z f alphas accs e),
+        lt-ltb f p (f_below masks lv nv z f alphas accs e),
+        lt-ltb l p l-below,
+        alphas-canonical masks lv nv z f alphas accs e,
+      )
+      (accumulators-canonical masks lv nv z f alphas accs e)
 
   not-below : (not_below_p ((z ∷ f ∷ l ∷ []) ++ alphas ++ accs)).holds ≡ false
   not-below = ap not numbers_too
@@ -213,18 +230,26 @@ module _ (masks lv nv : List ℕ) (z f l : ℕ) (alphas accs : List ℕ) (e : pa
       ++ (not_below_p (held consumer) ∷ fold_count consumer.folded 226 ∷ [])) []
       (k.0, (k.1.0, (k.1.1.0, (own-clear.0, (m.0, (m.1.0, (m.1.1.0, (own-clear.1.0, (refl, tt)))))))))
 
-  -- what the fold entry leaves is what that consumer hands back once it has taken the constraints
-  pub by_consumer : pair_fold_accumulators masks lv nv z f alphas accs
-      ≡ accumulators (taken_all consumer (yielded (cells masks lv nv z f) table)) accs
+  -- what that consumer hands back once it has taken the pair is what the fold entry leaves
+  abbrev pub after : ConstraintConsumer
+  after = with_values consumer (pair_values masks lv nv z f)
+
+  pub taken-is : pair_taken masks lv nv consumer ≡ Ok after
+  unfolding pair_taken
+  taken-is = sym (given_unless refused (Ok after) _ taken-clear)
+
+  pub by_pair : pair_fold_accumulators masks lv nv z f alphas accs ≡ accumulators after accs
   unfolding accumulators_refusal
-  by_consumer =
-      let vs = pair_values masks lv nv z f in
-      let after = with_values consumer vs in
+  by_pair =
       let clear : accumulators_refusal after accs ≡ 0 =
-      ap (λ (n : ℕ). lowest (own after n)) counted.0 ∙ ready_still consumer (ready masks lv nv consumer taken-clear) vs in
+      ap (λ (n : ℕ). lowest (own after n)) counted.0 ∙ ready_still consumer (ready masks lv nv consumer taken-clear) (pair_values masks lv nv z f) in
       let eight = padded-eight alphas counted.1 in
       let eight_too = padded-eight accs (omega (arith, counted.0, counted.1)) in
       sym (ap₂ (pair_fold_accumulators masks lv nv z f) alphas-are accs-are)
       ∙ sym (fold_left masks lv nv consumer taken-clear eight eight_too)
       ∙ sym (handed after accs clear)
-      ∙ ap (λ (c : ConstraintConsumer). accumulators c accs) (constraints_taken masks lv nv consumer taken-clear)
+
+  -- and once it has taken the constraints
+  pub by_consumer : pair_fold_accumulators masks lv nv z f alphas accs
+      ≡ accumulators (taken_all consumer (yielded (cells masks lv nv z f) table)) accs
+  by_consumer = by_pair ∙ ap (λ (c : ConstraintConsumer). accumulators c accs) (constraints_taken masks lv nv consumer taken-clear)

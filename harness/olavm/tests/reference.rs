@@ -75,10 +75,9 @@ fn the_lent_consumer_holds_what_the_rust_folds() {
     let lines: String = std::iter::zip(told, folded)
         .map(|(told, acc)| format!("alpha {told} to {acc}, a consumer to {acc}\n"))
         .collect();
-    assert_eq!(
-        include_str!("../../../crates/edge_consumer/stdout"),
-        format!("three alphas: accepted\n{lines}")
-    );
+    let at_once: String = lines.lines().map(|line| format!("at once: {line}\n")).collect();
+    let stored = include_str!("../../../crates/edge_consumer/stdout");
+    assert!(stored.starts_with(&format!("three alphas: accepted\n{lines}{at_once}")));
 }
 
 #[test]
