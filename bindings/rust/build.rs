@@ -8,6 +8,7 @@ fn main() {
     println!("cargo::rerun-if-env-changed=FELMUGO_LIB");
     let library = library();
     println!("cargo::rerun-if-changed={}", library.display());
+    println!("cargo::rustc-env=FELMUGO_LINKED={}", library.display());
     if library.is_file() {
         link(&library);
     } else {
