@@ -3,30 +3,28 @@ use mathlib.Core.Path.{◌≡◌, refl, ap, ◌∙◌}
 use mathlib.Core.List.{List, [], ◌∷◌, ◌++◌}
 use Prim.Native.Nat.{ℕ, zero, suc, ◌≤◌}
 use native.Mathlib.Omega.{arith}
-use mathlib.Core.Bool.{false, not, ◌||◌}
 use lib.ListN.{length, length-append, get_or, drop, replicate}
-use lib.Dec.{eqb, ltb}
-use borrow.Author.Tests.{eqb-true, not-false}
 use Rattle.std.specs.Prelude.{Result, Ok}
 use Rattle.refusals.specs.declared.Refusal.{Refusal}
 use Rattle.refusals.specs.Refusal.{unless, alpha_count, not_below_p, refused}
-use Rattle.refusals.proofs.Laws.{by_unless, clear, none_true}
+use Rattle.refusals.proofs.Laws.{by_unless, clear}
 use Rattle.accumulators.proofs.Folds.{folds-at, folds_past}
 use Rattle.table.specs.Table.{pair_values}
 use Rattle.consumer.specs.declared.ConstraintConsumer.{ConstraintConsumer}
-use Rattle.consumer.specs.Consumer.{with_values, weighted, taken, taken_refusal, left, empty, filled, made, made_refusal}
+use Rattle.consumer.specs.Consumer.{with_values, weighted, taken, taken_refusal, lent_after, empty, filled, made, made_refusal}
 use Rattle.consumer_pair_checks.specs.PairTaken.{pair_taken, pair_taken_refusal}
 use Rattle.consumer_history.specs.History.{Call, value, pair, answer, weighted_values, History, new, ◌then◌, start, now, folded_by, listed, Promise}
+use Rattle.consumer_history.proofs.Laws.{counts_are}
 use Rattle.consumer_history.proofs.Values.{values-none, value-is, values-append}
 
 module _ (c : ConstraintConsumer) where
   -- a call that is turned back, and one that folds the values vs
   folded-unless : (n : ℕ) (d : ConstraintConsumer) (vs : List ℕ) → d ≡ with_values c vs →
-      left c (unless n refused (Ok d)) ≡ with_values c (folded_by (unless n refused (Ok d)) vs)
+      lent_after c (unless n refused (Ok d)) ≡ with_values c (folded_by (unless n refused (Ok d)) vs)
   folded-unless zero d vs e = e
   folded-unless (suc n) d vs e = values-none c
 
-  pub call-folds : (call : Call) → left c (answer c call) ≡ with_values c (folded_by (answer c call) (weighted_values c call))
+  pub call-folds : (call : Call) → lent_after c (answer c call) ≡ with_values c (folded_by (answer c call) (weighted_values c call))
   unfolding taken pair_taken
   call-folds (value k v) = folded-unless (taken_refusal c v) _ (weighted c k v ∷ []) (value-is c (weighted c k v))
   call-folds (pair masks lv nv) =
@@ -47,9 +45,6 @@ record Made (c : ConstraintConsumer) : Type 0 where
   pub alphas : c.count ≤ length c.alphas
   pub accumulators : c.count ≤ length c.constraint_accs
 
-as-many : (n m : ℕ) → (alpha_count n m).holds ≡ false → m ≡ n
-as-many n m h = eqb-true _ _ (not-false _ (none_true (eqb n 0 || ltb 8 n) (not (eqb m n)) h).1)
-
 filled-made : (alphas accs : List ℕ) (z f l : ℕ) → length accs ≡ length alphas → Made (filled alphas accs z f l)
 filled-made alphas accs z f l e =
     record {
@@ -61,9 +56,9 @@ filled-made alphas accs z f l e =
 start-made : (h : History) → Made (start h)
 unfolding made made_refusal
 start-made (new alphas accs z f l) =
-    by_unless refused (Ok (filled alphas accs z f l)) (λ (r : Result ConstraintConsumer Refusal). Made (left empty r)) _
-    (λ e. filled-made alphas accs z f l (as-many _ _
-    (clear (alpha_count (length alphas) (length accs) ∷ not_below_p ((z ∷ f ∷ l ∷ []) ++ alphas ++ accs) ∷ []) tt e).0))
+    by_unless refused (Ok (filled alphas accs z f l)) (λ (r : Result ConstraintConsumer Refusal). Made (lent_after empty r)) _
+    (λ e. filled-made alphas accs z f l (counts_are _ _
+    (clear (alpha_count (length alphas) (length accs) ∷ not_below_p ((z ∷ f ∷ l ∷ []) ++ alphas ++ accs) ∷ []) tt e).0).0)
     (filled-made [] [] 0 0 0 refl)
 start-made (h then call) = start-made h
 

@@ -1,19 +1,19 @@
 -- A consumer that is not turned back for what it holds, and the values that it takes one after the other.
 use mathlib.Core.Path.{◌≡◌, refl, sym, ap, ap₂, ◌∙◌}
-use mathlib.Core.Bool.{Bool, true, ◌&&◌}
+use mathlib.Core.Bool.{Bool, true, false, not, ◌&&◌, ◌||◌}
 use mathlib.Core.List.{List, [], ◌∷◌, ◌++◌, map}
 use Prim.Native.Nat.{ℕ, zero, suc, ◌+◌, ◌<◌, ◌≤◌}
 use native.Mathlib.Omega.{arith}
 use lib.ListN.{length, take}
-use lib.Dec.{ltb}
-use borrow.Author.Tests.{lt-ltb, le-ltb, ltb-true, not-false}
+use lib.Dec.{eqb, ltb}
+use borrow.Author.Tests.{eqb-true, ltb-false, lt-ltb, le-ltb, ltb-true, not-false}
 use Rattle.std.specs.Prelude.{Result, Ok}
 use Rattle.algebra.specs.Prime.{p}
 use Rattle.algebra.specs.Expr.{eval}
 use Rattle.algebra.specs.Fold.{fold}
 use Rattle.refusals.specs.declared.Refusal.{Refusal}
-use Rattle.refusals.specs.Refusal.{lowest, canonical, not_below_p, fold_count, refused}
-use Rattle.refusals.proofs.Laws.{Clear, clear, behind, given_unless, both_true, canonical-append}
+use Rattle.refusals.specs.Refusal.{lowest, canonical, alpha_count, not_below_p, fold_count, refused}
+use Rattle.refusals.proofs.Laws.{Clear, clear, behind, given_unless, both_true, none_true, canonical-append}
 use Rattle.residue.specs.Residues.{add_p, mul_p, residues}
 use Rattle.residue.proofs.Laws.{add_p-lt}
 use Rattle.table.specs.Cells.{Cell, cells}
@@ -21,9 +21,15 @@ use Rattle.table.specs.Entry.{Kind as Kind_of_table, plain, transition, first, E
 use Rattle.accumulators.specs.Accumulated.{folds}
 use Rattle.consumer.specs.declared.ConstraintConsumer.{ConstraintConsumer}
 use Rattle.consumer.specs.declared.Kind.{Kind}
-use Rattle.consumer.specs.Consumer.{weights, held, own, with_value, with_values, weighted, taken, taken_refusal, left}
+use Rattle.consumer.specs.Consumer.{weights, held, consumer_conditions, with_value, with_values, weighted, taken, taken_refusal, lent_after}
 use Rattle.consumer_history.specs.Yielded.{Yielded, taken_all, weighted_all, call_of, yielded}
 use Rattle.consumer_history.proofs.Values.{values-none, value-is, values-append}
+
+-- so many alphas and so many accumulators, not turned back by their counts
+pub counts_are : (n m : ℕ) → (alpha_count n m).holds ≡ false → (m ≡ n) × (n ≤ 8)
+counts_are n m h =
+    let k = none_true (eqb n 0 || ltb 8 n) (not (eqb m n)) h in
+    (eqb-true m n (not-false _ k.1), ltb-false 8 n (none_true (eqb n 0) (ltb 8 n) k.0).1)
 
 -- what is folded into canonical accumulators is canonical
 fold-below : (alpha a : ℕ) (vs : List ℕ) → a < p → fold residues alpha a vs < p
@@ -43,7 +49,7 @@ folds-canonical (suc n) (alpha ∷ alphas) (a ∷ accs) vs e =
 
 -- a consumer that is not turned back for what it holds
 abbrev pub Ready : ConstraintConsumer → Type 0
-Ready c = lowest (own c c.count) ≡ 0
+Ready c = lowest (consumer_conditions c c.count) ≡ 0
 
 module _ (c : ConstraintConsumer) where
   abbrev alphas_in_use : List ℕ
@@ -58,8 +64,8 @@ module _ (c : ConstraintConsumer) where
       ∙ ap (λ (b : Bool). b && canonical accs_in_use) (canonical-append (weights c) alphas_in_use)
 
 module _ (c : ConstraintConsumer) (e : Ready c) where
-  ready : Clear (own c c.count)
-  ready = clear (own c c.count) tt e
+  ready : Clear (consumer_conditions c c.count)
+  ready = clear (consumer_conditions c c.count) tt e
 
   -- it takes any canonical value, where one more may be folded
   takes : (k : Kind) (v : ℕ) → v < p → c.folded < 4294967295 → taken k c v ≡ Ok (with_value c (weighted c k v))
@@ -68,7 +74,7 @@ module _ (c : ConstraintConsumer) (e : Ready c) where
       let last : Clear (not_below_p (v ∷ []) ∷ fold_count c.folded 1 ∷ []) =
       (rw (lt-ltb _ _ h) refl, (le-ltb _ _ (omega arith), tt)) in
       sym (given_unless refused (Ok (with_value c (weighted c k v))) _
-      (behind (own c c.count) (not_below_p (v ∷ []) ∷ fold_count c.folded 1 ∷ []) ready
+      (behind (consumer_conditions c c.count) (not_below_p (v ∷ []) ∷ fold_count c.folded 1 ∷ []) ready
       ∙ behind (not_below_p (v ∷ []) ∷ fold_count c.folded 1 ∷ []) [] last))
 
   -- and is ready still, whatever it has folded
@@ -78,7 +84,7 @@ module _ (c : ConstraintConsumer) (e : Ready c) where
       let a =
       both_true (canonical (weights c) && canonical (alphas_in_use c)) (canonical (accs_in_use c)) (sym (parts c) ∙ numbers) in
       let accs = folds-canonical c.count c.alphas c.constraint_accs vs a.1 in
-      behind (own (with_values c vs) c.count) [] (ready.0, (rw (parts (with_values c vs), a.0, accs) refl, tt))
+      behind (consumer_conditions (with_values c vs) c.count) [] (ready.0, (rw (parts (with_values c vs), a.0, accs) refl, tt))
 
 -- the theorem: what a consumer is after values that were yielded one after the other
 abbrev pub values_of : List Yielded → List ℕ
@@ -91,7 +97,7 @@ taken_all_lem c e [] h room = values-none c
 taken_all_lem c e (y ∷ ys) h room =
     let k = both_true (ltb y.value p) (canonical (values_of ys)) h in
     let w = weighted c y.kind y.value in
-    ap (λ (t : Result ConstraintConsumer Refusal). taken_all (left c t) ys) (takes c e y.kind y.value (ltb-true _ _ k.0) (omega arith))
+    ap (λ (t : Result ConstraintConsumer Refusal). taken_all (lent_after c t) ys) (takes c e y.kind y.value (ltb-true _ _ k.0) (omega arith))
     ∙ ap (λ (d : ConstraintConsumer). taken_all d ys) (value-is c w)
     ∙ taken_all_lem (with_values c (w ∷ [])) (ready_still c e (w ∷ [])) ys k.1 (omega arith)
     ∙ values-append c (w ∷ []) (weighted_all c ys)

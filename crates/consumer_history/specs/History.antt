@@ -8,7 +8,7 @@ use Rattle.residue.specs.Residues.{residues}
 use Rattle.table.specs.Table.{pair_values}
 use Rattle.consumer.specs.declared.ConstraintConsumer.{ConstraintConsumer}
 use Rattle.consumer.specs.declared.Kind.{Kind}
-use Rattle.consumer.specs.Consumer.{weighted, taken, left, empty, made}
+use Rattle.consumer.specs.Consumer.{weighted, taken, lent_after, empty, made}
 use Rattle.consumer_pair_checks.specs.PairTaken.{pair_taken}
 
 -- a call that alters a record: a value to the call of its kind, and a pair by masks, current row and next row
@@ -35,12 +35,12 @@ pub data History : Type 0 where
 
 -- the record as it was made (where `new` is refused, one without places), and as it stands
 abbrev pub start : History → ConstraintConsumer
-start (new alphas accs z f l) = left empty (made alphas accs z f l)
+start (new alphas accs z f l) = lent_after empty (made alphas accs z f l)
 start (h then call) = start h
 
 abbrev pub now : History → ConstraintConsumer
-now (new alphas accs z f l) = left empty (made alphas accs z f l)
-now (h then call) = left (now h) (answer (now h) call)
+now (new alphas accs z f l) = lent_after empty (made alphas accs z f l)
+now (h then call) = lent_after (now h) (answer (now h) call)
 
 -- "the list of values folded": a refused call folds none
 abbrev pub folded_by : Result ConstraintConsumer Refusal → List ℕ → List ℕ

@@ -7,7 +7,7 @@ use Rattle.table.specs.Entry.{Kind as Kind_of_table, plain, transition, first, E
 use Rattle.consumer.specs.declared.ConstraintConsumer.{ConstraintConsumer}
 use Rattle.consumer.specs.declared.Kind.{Kind}
 use Rattle.consumer.specs.declared.Kind.TheVariants.{Plain, Transition, FirstRow}
-use Rattle.consumer.specs.Consumer.{weighted, taken, left}
+use Rattle.consumer.specs.Consumer.{weighted, taken, lent_after}
 
 -- a value, and the kind of the call that it is yielded to
 pub record Yielded : Type 0 where
@@ -16,7 +16,7 @@ pub record Yielded : Type 0 where
 
 unfoldable pub taken_all : ConstraintConsumer → List Yielded → ConstraintConsumer
 taken_all c [] = c
-taken_all c (y ∷ ys) = taken_all (left c (taken y.kind c y.value)) ys
+taken_all c (y ∷ ys) = taken_all (lent_after c (taken y.kind c y.value)) ys
 
 -- the values, each with its weight applied
 abbrev pub weighted_all : ConstraintConsumer → List Yielded → List ℕ

@@ -14,7 +14,7 @@ use Rattle.algebra.specs.Expr.{Expr, var, con, ◌⊕◌, ◌⊖◌, ◌⊗◌, 
 use Rattle.std.specs.Prelude.{Result, Ok, Err}
 use Rattle.refusals.specs.declared.Refusal.{Refusal}
 use Rattle.refusals.specs.Refusal.{canonical, sizes, contents, value_buffer, alpha_count, not_below_p, number, number_of}
-use Rattle.refusals.proofs.Laws.{clear, behind, number_positive}
+use Rattle.refusals.proofs.Laws.{clear, behind, number_positive, given-is}
 use Rattle.residue.specs.Residues.{add_p, neg_p, mul_p, residues}
 use Rattle.residue.proofs.Laws.{mul_p_comm, mul_p-one}
 use Rattle.table.specs.Cells.{Cell, cells}
@@ -29,7 +29,7 @@ use Rattle.pair_checks.specs.PairValues.{pair_values_refusal, pair_values_buffer
 use Rattle.pair_checks.proofs.Laws.{values_written}
 use Rattle.consumer.specs.declared.ConstraintConsumer.{ConstraintConsumer}
 use Rattle.consumer.specs.declared.Kind.{Kind as Kind_of_call}
-use Rattle.consumer.specs.Consumer.{taken, left, filled, made, accumulators}
+use Rattle.consumer.specs.Consumer.{taken, lent_after, filled, made, accumulators}
 use Rattle.consumer_history.specs.Yielded.{Yielded, taken_all, call_of, yielded}
 use Rattle.pair_fold_checks.specs.PairFold.{pair_fold_refusal, pair_fold_accumulators}
 use Rattle.pair_fold_checks.proofs.Laws.{cells-canonical}
@@ -39,7 +39,7 @@ use Rattle.edge_consumer.specs.Calls.{kinds, yielded_by}
 -- one value and the rest, and no value left
 module _ (d : ConstraintConsumer) (ks : List Kind_of_call) (vs : List ℕ) where
   pub taken_next : (k : Kind_of_call) (v : ℕ) (rest : List Kind_of_call) (more : List ℕ) → ks ≡ k ∷ rest → vs ≡ v ∷ more
-      → (e : ConstraintConsumer) → e ≡ left d (taken k d v)
+      → (e : ConstraintConsumer) → e ≡ lent_after d (taken k d v)
       → taken_all d (yielded_by ks vs) ≡ taken_all e (yielded_by rest more)
   unfolding taken_all yielded_by
   taken_next k v rest more h i e j = rw (h, i, j)
@@ -71,13 +71,6 @@ bare_table = refl
 
 times-one : (v : ℕ) → v < p → mul_p v 1 ≡ v
 times-one v h = mul_p_comm v 1 ∙ mul_p-one v ∙ mod-eq_of_lt h
-
-pub given : (c d : ConstraintConsumer) → ◌≡◌ {A = Result ConstraintConsumer Refusal} (Ok c) (Ok d) → c ≡ d
-given c d e = ap of e
-  where
-    of : Result ConstraintConsumer Refusal → ConstraintConsumer
-    of (Ok x) = x
-    of (Err _) = c
 
 -- a fold that is not turned back
 module _ (masks lv nv : List ℕ) (z f : ℕ) (alphas accs : List ℕ) (e : pair_fold_refusal masks lv nv z f alphas accs ≡ 0) where
@@ -133,7 +126,7 @@ module _ (masks lv nv : List ℕ) (z f : ℕ) (alphas accs : List ℕ) (e : pair
       → out ≡ pair_fold_accumulators masks lv nv z f alphas accs
   left_by_consumer vs c d out h i j k =
       let w = h ∙ values_written masks lv nv 1 1 (replicate 226 0) refl values-accepted in
-      let g = given c (filled alphas accs z f 1) (i ∙ made-is masks lv nv z f 1 alphas accs e (lit< tt)) in
+      let g = (given-is 0 c (filled alphas accs z f 1) (i ∙ made-is masks lv nv z f 1 alphas accs e (lit< tt))).1 in
       k
       ∙ ap (λ (t : ConstraintConsumer). accumulators t accs) (j
       ∙ ap (λ (t : ConstraintConsumer). taken_all t (yielded_by kinds vs)) g

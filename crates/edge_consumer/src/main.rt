@@ -4,7 +4,7 @@
 #![tactic(auto)]
 
 ghost use Rattle.std.specs.Prelude.{◌≡◌};
-ghost use Rattle.consumer.specs.Consumer.{taken, left};
+ghost use Rattle.consumer.specs.Consumer.{taken, lent_after};
 ghost use Rattle.consumer_history.specs.Yielded.{taken_all};
 ghost use Rattle.pair_fold_checks.specs.PairFold.{pair_fold_refusal, pair_fold_accumulators};
 ghost use Rattle.edge_consumer.specs.Calls.{kinds, yielded_by};
@@ -23,7 +23,7 @@ mod kinds;
 
 // A value to the call of its kind. A call that is turned back leaves the consumer as it was.
 fn push(consumer: &mut ConstraintConsumer, kind: Kind, value: u64)
-    ensures { consumer.new ≡ left consumer.old (taken kind consumer.old value) }
+    ensures { consumer.new ≡ lent_after consumer.old (taken kind consumer.old value) }
 {
     let _ = match kind {
         Kind::Plain => consumer.constraint(value),

@@ -5,7 +5,7 @@
 ghost use Rattle.std.specs.Prelude.{◌≡◌};
 ghost use Rattle.refusals.specs.Refusal.{number_of as number_of_answer};
 ghost use Rattle.consumer.specs.declared.Kind.TheVariants.{Plain, Transition, FirstRow, LastRow};
-ghost use Rattle.consumer.specs.Consumer.{taken, left, made, accumulators_refusal, accumulators as accumulators_of};
+ghost use Rattle.consumer.specs.Consumer.{taken, lent_after, made, accumulators_refusal, accumulators as accumulators_of};
 ghost use Rattle.consumer_pair_checks.specs.PairTaken.{pair_taken};
 ghost use Rattle.flat.specs.Flat.{flat_outcome};
 
@@ -35,7 +35,7 @@ pub extern "C" fn felmugo_consumer_new(
 
 #[unsafe(no_mangle)]
 pub extern "C" fn felmugo_consumer_constraint(consumer: &mut ConstraintConsumer, value: u64) -> u64
-    ensures consumer { consumer.new ≡ left consumer.old (taken Plain consumer.old value) }
+    ensures consumer { consumer.new ≡ lent_after consumer.old (taken Plain consumer.old value) }
     ensures number { result ≡ number_of_answer (taken Plain consumer.old value) }
 {
     number_of(consumer.constraint(value))
@@ -46,7 +46,7 @@ pub extern "C" fn felmugo_consumer_constraint_transition(
     consumer: &mut ConstraintConsumer,
     value: u64,
 ) -> u64
-    ensures consumer { consumer.new ≡ left consumer.old (taken Transition consumer.old value) }
+    ensures consumer { consumer.new ≡ lent_after consumer.old (taken Transition consumer.old value) }
     ensures number { result ≡ number_of_answer (taken Transition consumer.old value) }
 {
     number_of(consumer.constraint_transition(value))
@@ -57,7 +57,7 @@ pub extern "C" fn felmugo_consumer_constraint_first_row(
     consumer: &mut ConstraintConsumer,
     value: u64,
 ) -> u64
-    ensures consumer { consumer.new ≡ left consumer.old (taken FirstRow consumer.old value) }
+    ensures consumer { consumer.new ≡ lent_after consumer.old (taken FirstRow consumer.old value) }
     ensures number { result ≡ number_of_answer (taken FirstRow consumer.old value) }
 {
     number_of(consumer.constraint_first_row(value))
@@ -68,7 +68,7 @@ pub extern "C" fn felmugo_consumer_constraint_last_row(
     consumer: &mut ConstraintConsumer,
     value: u64,
 ) -> u64
-    ensures consumer { consumer.new ≡ left consumer.old (taken LastRow consumer.old value) }
+    ensures consumer { consumer.new ≡ lent_after consumer.old (taken LastRow consumer.old value) }
     ensures number { result ≡ number_of_answer (taken LastRow consumer.old value) }
 {
     number_of(consumer.constraint_last_row(value))
@@ -81,7 +81,7 @@ pub extern "C" fn felmugo_consumer_pair(
     lv: &[u64],
     nv: &[u64],
 ) -> u64
-    ensures consumer { consumer.new ≡ left consumer.old (pair_taken masks.now lv.now nv.now consumer.old) }
+    ensures consumer { consumer.new ≡ lent_after consumer.old (pair_taken masks.now lv.now nv.now consumer.old) }
     ensures number { result ≡ number_of_answer (pair_taken masks.now lv.now nv.now consumer.old) }
 {
     match consumer_pair::fold_pair(*consumer, masks, lv, nv) {

@@ -9,7 +9,7 @@ use Rattle.answers.specs.Verdict.{keeps_of}
 use Rattle.answers.specs.Report.{Report}
 use Rattle.answers.specs.Spot.{found, pair_of, value_of}
 use Rattle.consumer.specs.declared.ConstraintConsumer.{ConstraintConsumer}
-use Rattle.consumer.specs.Consumer.{empty, left}
+use Rattle.consumer.specs.Consumer.{empty, lent_after}
 use Rattle.flat.specs.declared.FelmugoResidue.{FelmugoResidue}
 use Rattle.flat.specs.declared.FelmugoSigned.{FelmugoSigned}
 use Rattle.flat.specs.declared.FelmugoVerdict.{FelmugoVerdict}
@@ -42,4 +42,4 @@ flat_report r =
 
 -- document 01's number of an answer of `new`, and the consumer: one without places where the call is turned back
 abbrev pub flat_outcome : Result ConstraintConsumer Refusal → FelmugoOutcome
-flat_outcome r = record { number = number_of r; consumer = left empty r }
+flat_outcome r = record { number = number_of r; consumer = lent_after empty r }

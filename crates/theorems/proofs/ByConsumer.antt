@@ -1,26 +1,25 @@
 -- A pair that a consumer takes: what its accumulators are, and that it is the consumer that takes the 226 constraints
 -- one after the other, each in the call of its kind. So is what the fold entry leaves of lent accumulators.
 use mathlib.Core.Path.{◌≡◌, refl, sym, ap, ap₂, subst, ◌∙◌}
-use mathlib.Core.Bool.{Bool, true, false, not, ◌&&◌, ◌||◌}
+use mathlib.Core.Bool.{Bool, true, false, not, ◌&&◌}
 use mathlib.Core.List.{List, [], ◌∷◌, ◌++◌}
 use Prim.Native.Nat.{ℕ, ◌+◌, ◌<◌, ◌≤◌}
 use native.Mathlib.Omega.{arith}
 use lib.ListN.{length, get_or, take, drop, replicate, length-append, length-drop, length-map}
 use lib.Seq.{take-append_seam, take_at}
-use lib.Dec.{eqb, ltb}
-use borrow.Author.Tests.{lt-ltb, eq-eqb, ltb-false, eqb-true, not-false}
+use lib.Dec.{ltb}
+use borrow.Author.Tests.{lt-ltb, eq-eqb, ltb-false, not-false}
 use Rattle.std.specs.Prelude.{Ok}
 use Rattle.std.proofs.lemmas.List.{length-take-le}
 use Rattle.algebra.specs.Prime.{p}
 use Rattle.refusals.specs.Refusal.{Condition, lowest, canonical, sizes, alpha_count, contents, not_below_p, fold_count, refused}
-use Rattle.refusals.proofs.Laws.{Clear, clear, both_true, behind, canonical-append, canonical-below, none_true, given_unless, given-is}
+use Rattle.refusals.proofs.Laws.{Clear, clear, both_true, behind, canonical-append, canonical-below, given_unless, given-is}
 use Rattle.algebra.specs.Expr.{eval}
 use Rattle.residue.specs.Residues.{residues}
-use Rattle.table.specs.Cells.{Cell, local, next, mask_at, z_last, lagrange_basis_first, cells}
+use Rattle.table.specs.Cells.{Cell, cells}
 use Rattle.table.proofs.Numbers.{table-length}
 use Rattle.table.specs.Entry.{Entry}
 use Rattle.table.specs.Table.{table, pair_values}
-use Rattle.checks.proofs.Laws.{call_rows, call_masks}
 use Rattle.accumulators.specs.Accumulated.{folds}
 use Rattle.accumulators.proofs.Folds.{folds_in_use, folds-length}
 use Rattle.rulebook.proofs.Tests.{all, and_left, and_right}
@@ -28,12 +27,12 @@ use Rattle.rulebook.proofs.Open.{open_table}
 use Rattle.rulebook.proofs.Pair.{values_count}
 use Rattle.rulebook.proofs.Weights.{reduced, value-lt}
 use Rattle.consumer.specs.declared.ConstraintConsumer.{ConstraintConsumer}
-use Rattle.consumer.specs.Consumer.{held, own, with_values, padded, filled, made, made_refusal, accumulators, accumulators_refusal}
+use Rattle.consumer.specs.Consumer.{held, consumer_conditions, with_values, padded, filled, made, made_refusal, accumulators, accumulators_refusal}
 use Rattle.consumer_pair_checks.specs.PairTaken.{pair_taken, pair_taken_refusal}
 use Rattle.pair_fold_checks.specs.PairFold.{pair_fold_refusal, pair_fold_accumulators}
-use Rattle.pair_fold_checks.proofs.Laws.{clears as fold_clears, z_below, f_below, counts_clear, alphas-canonical, accumulators-canonical, accumulators-folded}
+use Rattle.pair_fold_checks.proofs.Laws.{call_cells, clears as fold_clears, z_below, f_below, counts_clear, alphas-canonical, accumulators-canonical, accumulators-folded}
 use Rattle.consumer_history.specs.Yielded.{Yielded, taken_all, call_of, yielded}
-use Rattle.consumer_history.proofs.Laws.{Ready, values_of, taken_all_lem, yielded_values, ready_still}
+use Rattle.consumer_history.proofs.Laws.{counts_are, Ready, values_of, taken_all_lem, yielded_values, ready_still}
 use Rattle.theorems.specs.PairByConsumer.{PairByConsumer}
 
 -- every entry of the table has a canonical value before its weight is applied
@@ -49,12 +48,6 @@ unfolding canonical
 bare_values x canon [] h = refl
 bare_values x canon (e ∷ es) h =
     rw (lt-ltb _ p (value-lt x x (λ c k. refl) canon e.expr (and_left (bare e) _ h)), bare_values x canon es (and_right (bare e) _ h))
-
--- so many alphas and so many accumulators, not turned back by their counts
-counts_are : (n m : ℕ) → (alpha_count n m).holds ≡ false → (m ≡ n) × (n ≤ 8)
-counts_are n m h =
-    let k = none_true (eqb n 0 || ltb 8 n) (not (eqb m n)) h in
-    (eqb-true m n (not-false _ k.1), ltb-false 8 n (none_true (eqb n 0) (ltb 8 n) k.0).1)
 
 padded-eight : (xs : List ℕ) → length xs ≤ 8 → length (padded xs) ≡ 8
 padded-eight xs h = omega (arith, length-append xs (drop (length xs) (replicate 8 0)), length-drop {A = ℕ} (length xs) (replicate 8 0), h)
@@ -83,7 +76,7 @@ module _ (masks lv nv : List ℕ) (c : ConstraintConsumer) (e : pair_taken_refus
   numbers = not-false (canonical (held c)) last.0
 
   pub ready : Ready c
-  ready = behind (own c c.count) [] (clears.1.1.1.0, (last.0, tt))
+  ready = behind (consumer_conditions c c.count) [] (clears.1.1.1.0, (last.0, tt))
 
   room : c.folded + 226 ≤ 4294967295
   room = ltb-false 4294967295 (c.folded + 226) last.1.0
@@ -95,11 +88,7 @@ module _ (masks lv nv : List ℕ) (c : ConstraintConsumer) (e : pair_taken_refus
   env = cells masks lv nv c.z_last c.lagrange_basis_first
 
   env-canonical : (k : Cell) → env k < p
-  env-canonical (local k) = (call_rows masks lv nv counts rest clears).local.below k
-  env-canonical (next k) = (call_rows masks lv nv counts rest clears).next.below k
-  env-canonical (mask_at i) = (call_masks masks lv nv counts rest clears).below i
-  env-canonical z_last = weight 0
-  env-canonical lagrange_basis_first = weight 1
+  env-canonical = call_cells masks lv nv c.z_last c.lagrange_basis_first counts rest clears (weight 0) (weight 1)
 
   -- it is the consumer that takes the constraints
   pub constraints_taken : with_values c (pair_values masks lv nv c.z_last c.lagrange_basis_first) ≡ taken_all c (yielded env table)
@@ -215,7 +204,7 @@ module _ (masks lv nv : List ℕ) (z f l : ℕ) (alphas accs : List ℕ) (e : pa
   accs-are : take consumer.count consumer.constraint_accs ≡ accs
   accs-are = take_at accs (drop (length accs) (replicate 8 0)) (length alphas) counted.0
 
-  own-clear : Clear (own consumer consumer.count)
+  own-clear : Clear (consumer_conditions consumer consumer.count)
   own-clear = (
     subst (λ (n : ℕ). (alpha_count (length alphas) n).holds ≡ false) counted.0 (counts_clear masks lv nv z f alphas accs e),
     (rw (alphas-are, accs-are) not-below, tt),
@@ -242,7 +231,7 @@ module _ (masks lv nv : List ℕ) (z f l : ℕ) (alphas accs : List ℕ) (e : pa
   unfolding accumulators_refusal
   by_pair =
       let clear : accumulators_refusal after accs ≡ 0 =
-      ap (λ (n : ℕ). lowest (own after n)) counted.0 ∙ ready_still consumer (ready masks lv nv consumer taken-clear) (pair_values masks lv nv z f) in
+      ap (λ (n : ℕ). lowest (consumer_conditions after n)) counted.0 ∙ ready_still consumer (ready masks lv nv consumer taken-clear) (pair_values masks lv nv z f) in
       let eight = padded-eight alphas counted.1 in
       let eight_too = padded-eight accs (omega (arith, counted.0, counted.1)) in
       sym (ap₂ (pair_fold_accumulators masks lv nv z f) alphas-are accs-are)
