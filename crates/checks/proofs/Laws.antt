@@ -1,16 +1,21 @@
 -- What a test that a branch asked for tells of the definition that it equals.
 use mathlib.Core.Path.{◌≡◌, sym, ap, ◌∙◌}
-use mathlib.Core.Bool.{Bool, true, false, not}
+use mathlib.Core.Bool.{Bool, true, false, not, ◌&&◌}
 use mathlib.Core.List.{List, [], ◌++◌}
 use Prim.Native.Nat.{ℕ}
-use lib.ListN.{length}
+use lib.ListN.{length, take, drop, take-append-drop}
 use borrow.Author.Tests.{not-false}
 use Rattle.refusals.specs.Refusal.{Condition, lowest, mask_contents, row_contents, sizes, contents, canonical}
-use Rattle.refusals.proofs.Laws.{Clear, clear, clear_front, clear_back, behind, length-is, canonical-below, none_true}
+use Rattle.refusals.proofs.Laws.{Clear, clear, clear_front, clear_back, behind, length-is, canonical-below, canonical-append, none_true}
 use Rattle.table.specs.Rows.{Row, Rows, Masks}
 
 pub kept : {r b : Bool} → r ≡ b → r ≡ true → not b ≡ false
 kept e t = ap not (sym e ∙ t)
+
+-- numbers of which a part is tested first, and then the others
+pub canonical_parts : (n : ℕ) (l part others : List ℕ) → part ≡ take n l → others ≡ drop n l →
+    canonical l ≡ (canonical part && canonical others)
+canonical_parts n l part others e f = rw (e, f) (ap canonical (sym (take-append-drop n l)) ∙ canonical-append (take n l) (drop n l))
 
 -- what is not turned back is as the core asks: a row, masks, and masks and a pair of rows together
 pub accepted-row : (row : List ℕ) → length row ≡ 94 → (row_contents row).holds ≡ false → Row row

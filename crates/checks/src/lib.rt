@@ -14,11 +14,28 @@ use table::{Masks, Row};
 // The most values that may be folded since the accumulators were lent.
 const MOST_FOLDED: u64 = 4294967295;
 
-// Every number is below p. Each number is tested, also behind one that is not, so that several are tested at once.
-pub fn canonical(numbers: &[u64]) -> bool
+// How many numbers are tested at once.
+const TESTED: usize = 32;
+
+// Every one of a few numbers is below p. Each is tested, also behind one that is not, so that several are tested at once.
+fn each_canonical(numbers: &[u64]) -> bool
     ensures { result ≡ is_canonical numbers.now }
 {
     numbers.iter().fold(true, |below, &x| below & (x < P))
+}
+
+// Every number is below p. Nothing is read behind the part in which one is not.
+pub fn canonical(numbers: &[u64]) -> bool
+    ensures { result ≡ is_canonical numbers.now }
+{
+    let mut rest = numbers;
+    while let Some((part, others)) = rest.split_first_chunk::<TESTED>() {
+        if !each_canonical(part) {
+            return false;
+        }
+        rest = others;
+    }
+    each_canonical(rest)
 }
 
 // No two numbers are equal.

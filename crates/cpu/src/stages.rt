@@ -1,5 +1,5 @@
 // The table from its four stages: `eval_packed_generic` of CpuStark.
-ghost use Rattle.std.specs.Prelude.{◌≡◌, length};
+ghost use Rattle.std.specs.Prelude.{◌≡◌, ◌++◌, ◌≤◌, length, drop};
 ghost use Rattle.table.specs.Table.{pair_values};
 
 use stage_context::eval_context;
@@ -8,10 +8,12 @@ use stage_instruction::eval_instruction;
 use stage_opcodes::eval_opcodes;
 use table::Pair;
 
-// The 226 values of a pair of rows.
+// The 226 values of a pair of rows, written to the first places of `out`; the rest of `out` is kept.
 pub fn eval_packed_generic(pair: &Pair, out: &mut [u64])
-    requires { length out.old ≡ 226 }
-    ensures { out.new ≡ pair_values pair.now.masks pair.now.lv pair.now.nv pair.now.z_last pair.now.lagrange_basis_first }
+    requires { 226 ≤ length out.old }
+    ensures { out.new
+        ≡ pair_values pair.now.masks pair.now.lv pair.now.nv pair.now.z_last pair.now.lagrange_basis_first
+        ++ drop 226 out.old }
 {
     eval_context(
         &pair.lv,

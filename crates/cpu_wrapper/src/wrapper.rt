@@ -10,6 +10,7 @@ ghost use Rattle.table.specs.CpuStark.{lv_is_ext_inst, lv_ext_length, constraint
 
 use crate::counted_row::CountedRow;
 use residue::Residue;
+use sums::Sum;
 use table::Row;
 use table::columns::*;
 
@@ -29,11 +30,13 @@ pub fn lv_ext_length(lv: &Row) -> Residue
 {
     let one = Residue::ONE;
     let tload_length = lv.at(COL_OP0) * lv.at(COL_OP1) + (one - lv.at(COL_OP0));
-    let storage = lv.at(COL_S_SLOAD) + lv.at(COL_S_SSTORE);
-    let with_tload = storage + lv.at(COL_S_TLOAD) * tload_length;
-    let with_tstore = with_tload + lv.at(COL_S_TSTORE) * lv.at(COL_OP1);
-    let with_call_sc = with_tstore + lv.at(COL_S_CALL_SC);
-    with_call_sc + lv.at(COL_S_END) * (one - lv.at(COL_IS_ENTRY_SC))
+    let with_tstore = Sum::from(lv.at(COL_S_SLOAD) + lv.at(COL_S_SSTORE))
+        .plus(lv.at(COL_S_TLOAD), tload_length)
+        .plus(lv.at(COL_S_TSTORE), lv.at(COL_OP1))
+        .reduced();
+    Sum::from(with_tstore + lv.at(COL_S_CALL_SC))
+        .plus(lv.at(COL_S_END), one - lv.at(COL_IS_ENTRY_SC))
+        .reduced()
 }
 
 pub fn constraint_wrapper_cols(counted: &CountedRow, nv: &Row, z_last: Residue) -> [Residue; 7]

@@ -2,13 +2,13 @@
 use Prim.Native.Nat.{ℕ, zero, suc, ◌+◌, ◌-◌, ◌<◌, ◌≤◌}
 use native.Mathlib.Omega.{arith}
 use mathlib.Core.Path.{◌≡◌, refl, ap, ap₂, ◌∙◌}
-use mathlib.Core.Bool.{Bool, cond}
+use mathlib.Core.Bool.{Bool, true, false, cond}
 use mathlib.Core.List.{List, [], ◌∷◌}
 use lib.ListN.{length, get_or, take, drop}
 use lib.Dec.{eqb}
 use Rattle.std.specs.List.{count_by}
 use Rattle.std.proofs.lemmas.List.Sums.{sum_by-cons, count_by-le-length}
-use Rattle.rulebook.specs.Kind.{ones}
+use Rattle.rulebook.specs.Kind.{ones, first_one}
 use Rattle.judge_columns.proofs.Runs.{part-length, part_at}
 
 abbrev pub is-one : ℕ → Bool
@@ -38,3 +38,16 @@ module _ (l : List ℕ) (a n : ℕ) (h : a + n ≤ length l) where
 
   pub ones_counted : count_by is-one part ≡ ones (λ c. get_or l c 0) a n
   ones_counted = rw cut (ones-places (λ c. get_or l c 0) (take n (drop a l)) a n (part-length l a n h) (part_at l a n h))
+
+-- where exactly one is 1, it is among them
+pub first_below : (g : ℕ → ℕ) (a n : ℕ) → ones g a n ≡ 1 → first_one g a n < n
+unfolding ones first_one
+first_below g a zero e = absurd (omega arith)
+first_below g a (suc n) e = go (eqb (g a) 1) e (λ d. first_below g (suc a) n d)
+  where
+    go : (b : Bool) → cond b 1 0 + ones g (suc a) n ≡ 1 → (ones g (suc a) n ≡ 1 → first_one g (suc a) n < n) →
+        cond b 0 (suc (first_one g (suc a) n)) < suc n
+    go true d h = omega arith
+    go false d h =
+        let l : first_one g (suc a) n < n = h (omega arith) in
+        omega arith

@@ -6,7 +6,6 @@ ghost use Rattle.pair_checks.specs.PairValues.{PairValuesCall};
 
 use pair_checks::accept;
 use refusals::Refusal;
-use table::NUM_VALUES;
 
 // Writes the 226 values of a pair of rows to the first places of `out`, each with its weight applied.
 #[tactic(auto, unfolding(pair_checks::specs::PairValues::pair_values_buffer))]
@@ -22,6 +21,6 @@ pub fn pair_values(
         out.old (number_of result) out.new }
 {
     let pair = accept(masks, lv, nv, z_last, lagrange_basis_first, out.len())?;
-    cpu::stages::eval_packed_generic(&pair, &mut out[0..NUM_VALUES]);
+    cpu::stages::eval_packed_generic(&pair, out);
     Ok(())
 }

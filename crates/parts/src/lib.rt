@@ -1,7 +1,7 @@
 // Loops over the registers of a row, and writing residues to a buffer.
 #![tactic(auto)]
 
-ghost use Rattle.std.specs.Prelude.{◌≡◌, ◌+◌, ◌≤◌, length, get_or};
+ghost use Rattle.std.specs.Prelude.{◌≡◌, ◌+◌, ◌++◌, ◌≤◌, length, drop, get_or};
 ghost use Rattle.residue.specs.Residues.{mul_p};
 ghost use Rattle.parts.specs.Parts.{up_to};
 
@@ -9,11 +9,12 @@ use residue::{Residue, mul};
 
 pub mod context;
 
-// Writes the numbers of the residues.
+// Writes the numbers of the residues to the first places; the rest of `out` is kept.
 pub fn put_residues(out: &mut [u64], values: &[Residue])
-    requires { length values.now ≡ length out.old }
-    ensures { out.new ≡ values.now }
+    requires { length values.now ≤ length out.old }
+    ensures { out.new ≡ values.now ++ drop (length values.now) out.old }
 {
+    let out = &mut out[..values.len()];
     // Kept: nothing is known after a loop over `out.iter_mut().zip(values)`, so the index is counted.
     for (i, value) in values.iter().enumerate() {
         out[i] = value.value();

@@ -1,7 +1,7 @@
 // CpuStark: the groups of this stage that are made of several pieces.
 #![tactic(auto, unfolding(algebra::specs::Expr::eval, table::specs::Entry::values, table::specs::Entry::each, table::specs::CpuStark::constraint_tx_init, table::specs::CpuStark::tx_init_first_line_head, table::specs::CpuStark::tx_init_first_line_regs, table::specs::CpuStark::tx_init_each_tx_head, table::specs::CpuStark::tx_init_each_tx_regs, table::specs::CpuStark::eval_packed_generic_body, table::specs::CpuStark::body_tx_idx, table::specs::CpuStark::body_ctx_regs, table::specs::CpuStark::body_filter_imm, table::specs::CpuStark::constraint_ext_lines, table::specs::CpuStark::ext_lines_counts, table::specs::CpuStark::ext_lines_opcode, table::specs::CpuStark::ext_lines_selectors, table::specs::CpuStark::ext_lines_op1_imm))]
 
-ghost use Rattle.std.specs.Prelude.{◌≡◌, [], length};
+ghost use Rattle.std.specs.Prelude.{◌≡◌, [], ◌++◌, ◌≤◌, length, drop};
 ghost use Rattle.residue.specs.Residues.{residues};
 ghost use Rattle.table.specs.Cells.{cells};
 ghost use Rattle.table.specs.Entry.{values};
@@ -26,6 +26,15 @@ pub fn constraint_tx_init(
     lagrange_basis_first: Residue,
     out: &mut [u64],
 )
+    requires { 31 ≤ length out.old }
+    ensures { out.new
+        ≡ values residues (cells [] lv.now nv.now z_last lagrange_basis_first) constraint_tx_init ++ drop 31 out.old }
+{
+    fill_tx_init(lv, nv, z_last, lagrange_basis_first, &mut out[..31]);
+}
+
+// The same, in a buffer of just that length.
+fn fill_tx_init(lv: &Row, nv: &Row, z_last: Residue, lagrange_basis_first: Residue, out: &mut [u64])
     requires { length out.old ≡ 31 }
     ensures { out.new
         ≡ values residues (cells [] lv.now nv.now z_last lagrange_basis_first) constraint_tx_init }
@@ -44,8 +53,8 @@ pub fn constraint_tx_init(
 
 // The constraints that eval_packed_generic yields itself.
 pub fn eval_packed_generic_body(lv: &Row, nv: &Row, z_last: Residue, out: &mut [u64])
-    requires { length out.old ≡ 12 }
-    ensures { out.new ≡ values residues (cells [] lv.now nv.now z_last 0) eval_packed_generic_body }
+    requires { 12 ≤ length out.old }
+    ensures { out.new ≡ values residues (cells [] lv.now nv.now z_last 0) eval_packed_generic_body ++ drop 12 out.old }
 {
     put_residues(&mut out[0..2], &body_tx_idx(lv, nv, z_last));
     put_residues(&mut out[2..10], &body_ctx_regs(lv, nv, z_last));
@@ -53,6 +62,14 @@ pub fn eval_packed_generic_body(lv: &Row, nv: &Row, z_last: Residue, out: &mut [
 }
 
 pub fn constraint_ext_lines(counted: &CountedRow, nv: &Row, out: &mut [u64])
+    requires { 25 ≤ length out.old }
+    ensures { out.new ≡ values residues (cells [] counted.now nv.now 0 0) constraint_ext_lines ++ drop 25 out.old }
+{
+    fill_ext_lines(counted, nv, &mut out[..25]);
+}
+
+// The same, in a buffer of just that length.
+fn fill_ext_lines(counted: &CountedRow, nv: &Row, out: &mut [u64])
     requires { length out.old ≡ 25 }
     ensures { out.new ≡ values residues (cells [] counted.now nv.now 0 0) constraint_ext_lines }
 {

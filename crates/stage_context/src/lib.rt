@@ -1,7 +1,7 @@
 // The first stage of the table (A to E), written to a buffer group by group.
 #![tactic(auto)]
 
-ghost use Rattle.std.specs.Prelude.{◌≡◌, [], length};
+ghost use Rattle.std.specs.Prelude.{◌≡◌, [], ◌++◌, ◌≤◌, length, drop};
 ghost use Rattle.residue.specs.Residues.{residues};
 ghost use Rattle.table.specs.Cells.{cells};
 ghost use Rattle.table.specs.Entry.{values};
@@ -18,7 +18,6 @@ use table::Row;
 pub mod cpu_stark;
 
 // Values 1 to 82.
-#[tactic(auto, unfolding(algebra::specs::Expr::eval, table::specs::Entry::values, table::specs::Entry::each, table::specs::CpuStark::constraint_tx_init, table::specs::CpuStark::tx_init_first_line_head, table::specs::CpuStark::tx_init_first_line_regs, table::specs::CpuStark::tx_init_each_tx_head, table::specs::CpuStark::tx_init_each_tx_regs, table::specs::CpuStark::eval_packed_generic_body, table::specs::CpuStark::body_tx_idx, table::specs::CpuStark::body_ctx_regs, table::specs::CpuStark::body_filter_imm, table::specs::CpuStark::constraint_ext_lines, table::specs::CpuStark::ext_lines_counts, table::specs::CpuStark::ext_lines_opcode, table::specs::CpuStark::ext_lines_selectors, table::specs::CpuStark::ext_lines_op1_imm, table::specs::CpuStark::constraint_wrapper_cols, table::specs::CpuStark::constraint_env_idx, table::specs::CpuStark::lv_is_ext_inst, table::specs::CpuStark::nv_is_ext_inst, table::specs::CpuStark::lv_ext_length, crate::specs::Stage::context))]
 pub fn eval_context(
     lv: &Row,
     nv: &Row,
@@ -26,6 +25,16 @@ pub fn eval_context(
     lagrange_basis_first: Residue,
     out: &mut [u64],
 )
+    requires { 82 ≤ length out.old }
+    ensures { out.new
+        ≡ values residues (cells [] lv.now nv.now z_last lagrange_basis_first) context ++ drop 82 out.old }
+{
+    fill_context(lv, nv, z_last, lagrange_basis_first, &mut out[..82]);
+}
+
+// The same, in a buffer of just that length.
+#[tactic(auto, unfolding(algebra::specs::Expr::eval, table::specs::Entry::values, table::specs::Entry::each, table::specs::CpuStark::constraint_tx_init, table::specs::CpuStark::tx_init_first_line_head, table::specs::CpuStark::tx_init_first_line_regs, table::specs::CpuStark::tx_init_each_tx_head, table::specs::CpuStark::tx_init_each_tx_regs, table::specs::CpuStark::eval_packed_generic_body, table::specs::CpuStark::body_tx_idx, table::specs::CpuStark::body_ctx_regs, table::specs::CpuStark::body_filter_imm, table::specs::CpuStark::constraint_ext_lines, table::specs::CpuStark::ext_lines_counts, table::specs::CpuStark::ext_lines_opcode, table::specs::CpuStark::ext_lines_selectors, table::specs::CpuStark::ext_lines_op1_imm, table::specs::CpuStark::constraint_wrapper_cols, table::specs::CpuStark::constraint_env_idx, table::specs::CpuStark::lv_is_ext_inst, table::specs::CpuStark::nv_is_ext_inst, table::specs::CpuStark::lv_ext_length, crate::specs::Stage::context))]
+fn fill_context(lv: &Row, nv: &Row, z_last: Residue, lagrange_basis_first: Residue, out: &mut [u64])
     requires { length out.old ≡ 82 }
     ensures { out.new
         ≡ values residues (cells [] lv.now nv.now z_last lagrange_basis_first) context }

@@ -1,7 +1,7 @@
 // The third stage of the table (I to K), written to a buffer group by group.
 #![tactic(auto)]
 
-ghost use Rattle.std.specs.Prelude.{◌≡◌, [], length};
+ghost use Rattle.std.specs.Prelude.{◌≡◌, [], ◌++◌, ◌≤◌, length, drop};
 ghost use Rattle.residue.specs.Residues.{residues};
 ghost use Rattle.table.specs.Cells.{cells};
 ghost use Rattle.table.specs.Entry.{values};
@@ -18,8 +18,8 @@ pub mod cpu_stark;
 // Values 145 to 159.
 #[tactic(auto, unfolding(algebra::specs::Expr::eval, table::specs::Entry::values, table::specs::Entry::each, crate::specs::Stage::flow, table::specs::CpuStark::constraint_env_unchanged_clk, table::specs::CpuStark::constraint_env_unchanged_pc, table::specs::CpuStark::instruction_size, table::specs::CpuStark::pc_next, table::specs::CpuStark::constraint_reg_consistency, table::specs::CpuStark::dst_reg_changes, table::specs::CpuStark::multi_reg_change, table::specs::CpuStark::fp_consistency))]
 pub fn eval_flow(lv: &Row, nv: &Row, z_last: Residue, out: &mut [u64])
-    requires { length out.old ≡ 15 }
-    ensures { out.new ≡ values residues (cells [] lv.now nv.now z_last 0) flow }
+    requires { 15 ≤ length out.old }
+    ensures { out.new ≡ values residues (cells [] lv.now nv.now z_last 0) flow ++ drop 15 out.old }
 {
     let clk = constraint_env_unchanged_clk(lv, nv);
     put_residues(&mut out[0..2], &clk);

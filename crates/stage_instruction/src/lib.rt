@@ -1,7 +1,7 @@
 // The second stage of the table (F to H), written to a buffer group by group.
 #![tactic(auto)]
 
-ghost use Rattle.std.specs.Prelude.{◌≡◌, length};
+ghost use Rattle.std.specs.Prelude.{◌≡◌, ◌++◌, ◌≤◌, length, drop};
 ghost use Rattle.residue.specs.Residues.{residues};
 ghost use Rattle.table.specs.Cells.{cells};
 ghost use Rattle.table.specs.Entry.{values};
@@ -15,8 +15,16 @@ use table::{Masks, Row};
 pub mod cpu_stark;
 
 // Values 83 to 144.
-#[tactic(auto, unfolding(algebra::specs::Expr::eval, table::specs::Entry::values, table::specs::Entry::each, table::specs::CpuStark::constraint_opcode_selector, table::specs::CpuStark::opcode_products, table::specs::CpuStark::opcode_selectors_binary, table::specs::CpuStark::opcode_sums, table::specs::CpuStark::constraint_operands_mathches_registers, table::specs::CpuStark::selectors_binary, table::specs::CpuStark::operand_sums, table::specs::Entry::plus_all, table::specs::CpuStark::sum_s_op, table::specs::CpuStark::cal_opcode, table::specs::CpuStark::selector_sum, table::specs::CpuStark::selected, table::specs::CpuStark::selected_next, table::specs::CpuStark::plus_shifted, table::specs::CpuStark::instruction, table::specs::CpuStark::constraint_instruction_encode, crate::specs::Stage::instruction))]
 pub fn eval_instruction(lv: &Row, nv: &Row, masks: &Masks, out: &mut [u64])
+    requires { 62 ≤ length out.old }
+    ensures { out.new ≡ values residues (cells masks.now lv.now nv.now 0 0) instruction ++ drop 62 out.old }
+{
+    fill_instruction(lv, nv, masks, &mut out[..62]);
+}
+
+// The same, in a buffer of just that length.
+#[tactic(auto, unfolding(algebra::specs::Expr::eval, table::specs::Entry::values, table::specs::Entry::each, table::specs::CpuStark::constraint_opcode_selector, table::specs::CpuStark::opcode_products, table::specs::CpuStark::opcode_selectors_binary, table::specs::CpuStark::opcode_sums, table::specs::CpuStark::constraint_operands_mathches_registers, table::specs::CpuStark::selectors_binary, table::specs::CpuStark::operand_sums, table::specs::Entry::plus_all, table::specs::CpuStark::sum_s_op, table::specs::CpuStark::cal_opcode, table::specs::CpuStark::selector_sum, table::specs::CpuStark::selected, table::specs::CpuStark::selected_next, table::specs::CpuStark::plus_shifted, table::specs::CpuStark::instruction, table::specs::CpuStark::constraint_instruction_encode, crate::specs::Stage::instruction))]
+fn fill_instruction(lv: &Row, nv: &Row, masks: &Masks, out: &mut [u64])
     requires { length out.old ≡ 62 }
     ensures { out.new ≡ values residues (cells masks.now lv.now nv.now 0 0) instruction }
 {

@@ -1,5 +1,5 @@
 // tape.rs: the values of tape.
-ghost use Rattle.std.specs.Prelude.{◌≡◌, [], length};
+ghost use Rattle.std.specs.Prelude.{◌≡◌, [], ◌++◌, ◌≤◌, length, drop};
 ghost use Rattle.residue.specs.Residues.{residues};
 ghost use Rattle.table.specs.Cells.{cells};
 ghost use Rattle.table.specs.Entry.{values};
@@ -11,8 +11,16 @@ use cpu_tp::tp::*;
 use parts::put_residues;
 use table::Row;
 
-#[tactic(auto, unfolding(table::specs::Entry::values, table::specs::Tape::tape, table::specs::Tape::tape_ext_lines, table::specs::Tape::tape_first_ext_line, table::specs::Tape::tape_tp, table::specs::Tape::tape_filter, algebra::specs::Expr::eval))]
 pub fn eval_packed_generic(factored: &FactoredRow, nv: &Row, out: &mut [u64])
+    requires { 21 ≤ length out.old }
+    ensures { out.new ≡ values residues (cells [] factored.now.row.now nv.now 0 0) tape ++ drop 21 out.old }
+{
+    fill(factored, nv, &mut out[..21]);
+}
+
+// The same, in a buffer of just that length.
+#[tactic(auto, unfolding(table::specs::Entry::values, table::specs::Tape::tape, table::specs::Tape::tape_ext_lines, table::specs::Tape::tape_first_ext_line, table::specs::Tape::tape_tp, table::specs::Tape::tape_filter, algebra::specs::Expr::eval))]
+fn fill(factored: &FactoredRow, nv: &Row, out: &mut [u64])
     requires { length out.old ≡ 21 }
     ensures { out.new ≡ values residues (cells [] factored.now.row.now nv.now 0 0) tape }
 {

@@ -1,7 +1,7 @@
 -- The values of a pair, as the step computes them, are few and canonical.
 use mathlib.Core.Path.{◌≡◌}
 use mathlib.Core.Bool.{true}
-use mathlib.Core.List.{List}
+use mathlib.Core.List.{List, append-nil}
 use Prim.Native.Nat.{ℕ, ◌-◌, ◌≤◌, ◌<◌}
 use native.Mathlib.Omega.{arith}
 use lib.ListN.{length}
@@ -23,6 +23,9 @@ pair_few masks lv nv z w = omega (arith, values_count masks lv nv z w)
 pub pair_below : (s : State) (nv : List ℕ) (z w : ℕ) → w ≡ first_weight (s.rows - 1) → Sound s → Row nv → z < p
     → All (λ v. v < p) (pair_values s.masks s.previous nv z w)
 pair_below s nv z w f k r l = pair-canonical k.masks k.previous r l (first_below (s.rows - 1) w f)
+
+-- the buffer of the values has nothing behind them
+pub ruleset nothing_behind = (append-nil)
 
 -- a row that was read and tested
 pub row_of_canonical : (row : List ℕ) → length row ≡ 94 → canonical row ≡ true → Row row

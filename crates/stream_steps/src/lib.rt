@@ -33,7 +33,7 @@ fn refuse<const N: usize>(s: SoundState, refusal: Refusal, out: &mut TextBuffer<
 }
 
 // The text of the pair of the previous row and the next.
-#[tactic(auto, using(crate::proofs::Laws::pair_few, crate::proofs::Laws::pair_below), unfolding(stream_model::specs::Model::pair_text))]
+#[tactic(auto, using(crate::proofs::Laws::nothing_behind, crate::proofs::Laws::pair_few, crate::proofs::Laws::pair_below), unfolding(stream_model::specs::Model::pair_text))]
 fn put_pair<T: PairText<N>, const N: usize>(
     s: &SoundState,
     next: &Row,

@@ -50,10 +50,14 @@ count_few n r w h = go (leb r 20) refl
         let k : 10 ^ (r - 1) ≤ n = w.2 (omega arith) in
         absurd (omega arith)
 
-pub decimal_is : (n r : ℕ) → IsDigitCount 10 1 n r → n < 2 ^ 64 → last_digits 10 r n ≡ decimal_of n
+-- the decimal of a number is its last digits, as many as it has, where those are at most 20
+pub decimal_is_few : (n r : ℕ) → IsDigitCount 10 1 n r → r ≤ 20 → last_digits 10 r n ≡ decimal_of n
 unfolding decimal_of
-decimal_is n zero w h = absurd (omega (arith, w.0))
-decimal_is n (suc k) w h = let f = count_few n (suc k) w h in digits_are k n 19 w.1 w.2 (omega arith)
+decimal_is_few n zero w f = absurd (omega (arith, w.0))
+decimal_is_few n (suc k) w f = digits_are k n 19 w.1 w.2 (omega arith)
+
+pub decimal_is : (n r : ℕ) → IsDigitCount 10 1 n r → n < 2 ^ 64 → last_digits 10 r n ≡ decimal_of n
+decimal_is n r w h = decimal_is_few n r w (count_few n r w h)
 
 -- a number has at most j + 1 digits where it is below 10 ^ (j + 1), or where it is taken to have no more
 digits_few : (k j n : ℕ) → (j < k → n < 10 ^ suc j) → length (digits_of k n) ≤ suc j

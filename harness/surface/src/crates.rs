@@ -1,5 +1,6 @@
 //! The repository's library crates.
 
+use std::collections::BTreeSet;
 use std::fs;
 use std::path::Path;
 
@@ -25,7 +26,32 @@ pub fn libraries(folder: &Path) -> Result<Vec<Library>, String> {
         let functions = functions(&src).map_err(|error| format!("crate {name}: {error}"))?;
         libraries.push(Library { name, functions });
     }
-    Ok(libraries)
+    Ok(asking_as_traits(libraries))
+}
+
+/// The crates, whose types' methods by a trait of theirs ask where the trait's own method does.
+pub fn asking_as_traits(mut libraries: Vec<Library>) -> Vec<Library> {
+    let functions = libraries.iter().flat_map(|library| &library.functions);
+    let asking = functions
+        .filter(|f| f.asks)
+        .filter_map(|f| by_trait(&f.name));
+    let asking: BTreeSet<_> = asking.collect();
+    for function in libraries
+        .iter_mut()
+        .flat_map(|library| &mut library.functions)
+    {
+        function.asks |= by_trait(&function.name).is_some_and(|method| asking.contains(&method));
+    }
+    libraries
+}
+
+/// Of `<Trait>::method`, and of `<Type as Trait<..>>::method`, the trait and the method.
+fn by_trait(name: &str) -> Option<(String, String)> {
+    let (head, method) = name.rsplit_once(">::")?;
+    let (_, within) = head.split_once('<')?;
+    let path = within.rsplit_once(" as ").map_or(within, |(_, path)| path);
+    let name = path.split_once('<').map_or(path, |(name, _)| name);
+    Some((name.to_owned(), method.to_owned()))
 }
 
 /// The functions of a crate whose files lie in a folder: of lib.rt, then of its modules.

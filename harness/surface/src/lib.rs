@@ -7,6 +7,6 @@ mod source;
 mod tokens;
 
 pub use check::{row, wrong};
-pub use crates::{libraries, Library};
+pub use crates::{asking_as_traits, libraries, Library};
 pub use page::{Page, Row};
 pub use source::{declared, Declared, Function};

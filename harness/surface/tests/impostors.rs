@@ -1,6 +1,6 @@
 //! The check itself: it passes a page that is right, and finds what is wrong with others.
 
-use surface::{declared, wrong, Function, Library, Page};
+use surface::{asking_as_traits, declared, wrong, Function, Library, Page};
 
 const LIB: &str = r#"
 // pub fn in_a_comment() {}
@@ -134,6 +134,33 @@ fn the_functions_of_a_trait_and_of_what_a_type_has_by_it_are_read() {
         ("<Pair as T>::f", false),
     ];
     assert_eq!(names, expected);
+}
+
+#[test]
+fn what_a_type_has_by_a_trait_asks_as_the_trait_does() {
+    let library = |name: &str, text: &str| Library {
+        name: name.into(),
+        functions: declared(text).expect("a file").functions,
+    };
+    let libraries = asking_as_traits(vec![
+        library(
+            "impls",
+            "impl<const N: usize> T<N> for Pair { fn f() {} fn g() {} }",
+        ),
+        library(
+            "traits",
+            "pub trait T<const N: usize> { fn f() requires { A }; fn g(); }",
+        ),
+    ]);
+    let asks: Vec<_> = libraries[0]
+        .functions
+        .iter()
+        .map(|f| (f.name.as_str(), f.asks))
+        .collect();
+    assert_eq!(
+        asks,
+        [("<Pair as T<N>>::f", true), ("<Pair as T<N>>::g", false)]
+    );
 }
 
 #[test]

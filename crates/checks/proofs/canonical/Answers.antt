@@ -1,16 +1,18 @@
--- `checks::canonical` meets its contract.
-use mathlib.Core.Path.{◌∙◌}
-use mathlib.Core.Bool.{true, ◌&&◌}
-use lib.Dec.{ltb}
-use borrow.Author.Tests.{tests}
-use Rattle.std.proofs.Common.{rules}
-use Rattle.std.proofs.lemmas.Iterator.{YieldsList-from_slice}
-use Rattle.std.proofs.lemmas.Iterator.Consumers.{fold_from_yields_List}
-use Rattle.algebra.specs.Prime.{p}
-use Rattle.refusals.proofs.Laws.{canonical_fold}
+-- `checks::canonical` meets its contract: what is left is below p exactly if all are.
+use mathlib.Core.Path.{sym, ap, ◌∙◌}
+use mathlib.Core.Bool.{Bool, ◌&&◌}
+use Rattle.refusals.specs.Refusal.{canonical}
+use Rattle.checks.proofs.Laws.{canonical_parts}
 use Rattle.checks.proofs.canonical.Goals as goal
 
-pub returns : goal.returns
-returns c =
-    fold_from_yields_List _ (λ b x. b && ltb x p) _ c.fold.result c.fold.ensures.ran (YieldsList-from_slice c.args.numbers.now cc) (λ a x b q k. search (rules, tests))
-    ∙ canonical_fold true c.args.numbers.now
+pub returns-then-not-each_canonical : goal.returns-then-not-each_canonical
+returns-then-not-each_canonical c =
+    ap (λ (b : Bool). b && canonical c.in-Some.others.now) (sym c.if-not-each_canonical.true ∙ c.each_canonical.ensures)
+    ∙ sym (canonical_parts 32 _ _ _ c.in-Some.ensures.cases.0 c.in-Some.ensures.cases.1)
+    ∙ c.loop-part.invariant
+
+pub loop-part-preserved : goal.loop-part-preserved
+loop-part-preserved c =
+    ap (λ (b : Bool). b && canonical c.in-Some.others.now) (sym c.if-not-each_canonical.false ∙ c.each_canonical.ensures)
+    ∙ sym (canonical_parts 32 _ _ _ c.in-Some.ensures.cases.0 c.in-Some.ensures.cases.1)
+    ∙ c.loop-part.invariant
